@@ -17,7 +17,7 @@ from command_case import EXAMPLES, TOP, CommandCase, built
 from vembrusk import __version__
 from vembrusk.command import SUBCOMMANDS
 from vembrusk.files import write_whole
-from vembrusk.words import typed_bytes
+from vembrusk.words import Arguments, session_of, typed_bytes
 
 TOOLS = TOP / "cpmtools"
 GREETING = EXAMPLES / "greeting/greeting.com"
@@ -55,6 +55,13 @@ class WordsTest(CommandCase):
             self.assertEqual(typed_bytes(text), data)
         with self.assertRaises(ValueError):
             typed_bytes(r"\q")
+
+    def test_a_disk_raises_the_default_limit(self) -> None:
+        parser = Arguments()
+        parser.set_operands("PROGRAM [TAIL]", "")
+        parser.add_session()
+        for words, limit in (["--files=x"], None), (["--disk-d=x"], 4_000_000_000), (["--disk=x", "--files-b=y", "--limit=5"], 5):
+            self.assertEqual(session_of(parser.read(["x.com", *words])).limit, limit)
 
     def test_faults(self) -> None:
         self.faulty("--files-b and --disk-b exclude each other", GREETING, "--files-b", "x", "--disk-b", "y", "--edits", "x")

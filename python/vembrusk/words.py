@@ -157,7 +157,8 @@ class Arguments(argparse.ArgumentParser):
             add(f"--disk{end}", metavar="DIR", help=f"directory that is drive {drive}, which is only read here")
         add("--console", metavar="FILE", help="the console input, which is called the script")
         add("--typed", metavar="TEXT", help="the script as text with \\r, \\n, \\t, \\\\ and \\xHH; a carriage return is added if none ends it")
-        add("--limit", type=number(0, LARGEST_LIMIT), metavar="N", help="the steps after which a run stops [default: 1000000]")
+        add("--limit", type=number(0, LARGEST_LIMIT), metavar="N",
+            help="the steps after which a run stops [default: 1000000; with a disk 4000000000]")
 
     def add_checkpoints(self) -> None:
         """Adds the options about checkpoints."""
@@ -189,13 +190,16 @@ def default_program(name: str) -> str:
 def session_of(values: argparse.Namespace) -> SessionWords:
     """Returns the session that the words name. Raises UsageError for options that exclude each other."""
     folders: dict[str, str] = {}
+    limit = values.limit
     for drive, end in DRIVES.items():
         files, disk = (getattr(values, f"{name}{end}".replace("-", "_")) for name in ("files", "disk"))
         if files is not None and disk is not None:
             raise UsageError(f"--files{end} and --disk{end} exclude each other")
         if files is not None or disk is not None:
             folders[drive] = files if disk is None else disk
+        if disk is not None and limit is None:
+            limit = LARGEST_LIMIT
     if values.typed is not None and values.console is not None:
         raise UsageError("--typed and --console exclude each other")
-    return SessionWords(values.program, values.tail, folders, values.console, values.typed, values.limit,
+    return SessionWords(values.program, values.tail, folders, values.console, values.typed, limit,
                         getattr(values, "spacing", None), getattr(values, "slots", None))

@@ -1,5 +1,6 @@
-"""Runs of the built program in which one request fails: the first, then the second, and so on, until none does."""
+"""Runs of the built program in which one request fails, or ends the run: the first, then the second, and so on, until none does."""
 import os
+import signal
 import tempfile
 from dataclasses import dataclass, field
 from pathlib import Path
@@ -23,9 +24,14 @@ class Wanted:
     may_be_cut: bool = True
     """Whether a failure may cut the output off; else all of it is written, or nothing."""
     files: dict[str, bytes | None] = field(default_factory=dict)
-    """The changed files, by drive (a to d) and name, in the order in which they are changed, with `None` for one that is removed."""
+    """The changed files, by drive (a to d) and name, in the order in which they are changed, with `None` for one that is removed: files outside
+    of disks, and then new files of disks, files that may replace others, and removals."""
+    outside: int = 0
+    """How many of these, the first ones, are outside of disks. Each is changed alone."""
     before: dict[str, bytes] = field(default_factory=dict)
     """The files that are there before the run. Each is replaced as a whole, or removed, or not touched."""
+    every: int = 1
+    """Each request whose number is one more than a multiple of this one fails in turn."""
 
     def states(self) -> list[dict[str, bytes]]:
         """Returns the files that are there after no change, after the first, and so on."""
@@ -34,6 +40,17 @@ class Wanted:
             state = {**states[-1], name: data}
             states.append({other: kept for other, kept in state.items() if kept is not None})
         return states
+
+    def temporary(self, name: str) -> str:
+        """Returns the name under which a file is first written: the first one that is free."""
+        folder, _, plain = name.rpartition('/')
+        free = (f'{folder}/.{plain}.new{end}' for end in ('', *(f'.{number}' for number in range(1, 10))))
+        return next(each for each in free if each not in self.before)
+
+    def prepared(self, done: int) -> dict[str, bytes]:
+        """Returns the files under temporary names after the first changes, if the ones that are changed with the next were prepared."""
+        end = done + 1 if done < self.outside else len(self.files)
+        return {self.temporary(name): data for name, data in list(self.files.items())[done:end] if data is not None}
 
 
 class FailureTest(ProgramTest):
@@ -65,32 +82,62 @@ class FailureTest(ProgramTest):
 
     def each_in_turn(self, wanted: Wanted, *words: object, **how) -> None:
         """Runs the program with each request failing in turn."""
-        states = wanted.states()
-        for at in range(1, 100_001):
+        for at in range(1, 100_001, wanted.every):
             self.put_files(wanted.before)
             done = self.run_with_failure(at, self.program, *words, **how)
-            found = self.take_files()
             with self.subTest(request=at, words=[str(word) for word in words]):
-                self.assertTrue(found in states, 'a file is cut off, gone, changed before its turn, or one that is not wanted')
-                self.check_end(wanted, done, states.index(found))
+                self.check_files(wanted, done, self.take_files())
                 if not self.mark.exists():
                     self.assertEqual(done.returncode, wanted.status)
                     self.assertGreater(at, 6, 'fewer than six requests')
-                    return
-                self.assertTrue(wanted.may_pass or done.returncode != wanted.status, 'the failure is not reported')
+                self.assertTrue(not self.mark.exists() or wanted.may_pass or done.returncode != wanted.status, 'the failure is not reported')
+            if not self.mark.exists():
+                return
         self.fail('requests without end')
 
-    def check_end(self, wanted: Wanted, done, count: int) -> None:
-        """Checks the end of a run that changed the first `count` files."""
+    def check_files(self, wanted: Wanted, done, found: dict[str, bytes]) -> None:
+        """Checks what a run left, and its end."""
+        temporaries = {name: found.pop(name) for name in [*found] if Path(name).name[0] == '.' and name not in wanted.before}
+        self.assertTrue(found in wanted.states(), 'a file is cut off, gone, changed before its turn, or one that is not wanted')
+        changed = wanted.states().index(found)
+        if done.returncode == -signal.SIGKILL:
+            self.check_killed(wanted, temporaries, changed)
+        else:
+            self.check_end(wanted, done, temporaries, changed)
+
+    def check_killed(self, wanted: Wanted, temporaries: dict[str, bytes], changed: int) -> None:
+        """Checks what a killed run that changed the first `changed` files left: the other new contents, whole if it changed a disk."""
+        prepared = wanted.prepared(changed)
+        self.assertTrue(changed <= wanted.outside or temporaries == prepared, [*temporaries])
+        for name, data in temporaries.items():
+            self.assertTrue(prepared[name].startswith(data), name)
+
+    def check_end(self, wanted: Wanted, done, temporaries: dict[str, bytes], changed: int) -> None:
+        """Checks the end of a run that changed the first `changed` files. On disks only a change that the system refuses comes after others."""
         if done.returncode == wanted.status:
-            self.assertEqual((done.stdout, done.stderr, count), (wanted.out, wanted.err, len(wanted.files)))
+            self.assertEqual((done.stdout, done.stderr, changed, [*temporaries]), (wanted.out, wanted.err, len(wanted.files), []))
             return
         self.assertEqual(done.returncode, wanted.fault_status)
-        self.assertIn(done.stderr.decode(), [f'{self.name}: {message}\n' for message in wanted.messages])
-        if count or (done.stdout and not wanted.may_be_cut):
+        message = done.stderr.decode().removeprefix(f'{self.name}: ').removesuffix('\n')
+        refused = self.refusal(wanted, changed) if wanted.fault_status == 1 else ''
+        if message == refused:
+            self.assertEqual(done.stdout, wanted.out)
+            self.assertTrue(temporaries == wanted.prepared(changed), [*temporaries])
+            return
+        self.assertIn(message, wanted.messages)
+        self.assertEqual([*temporaries], [])
+        self.assertIn(changed, (*range(wanted.outside + 1), len(wanted.files)))
+        if changed or (done.stdout and not wanted.may_be_cut):
             self.assertEqual(done.stdout, wanted.out)
         else:
             self.assertTrue(wanted.out.startswith(done.stdout), 'the output is not a prefix of the wanted one')
+
+    def refusal(self, wanted: Wanted, changed: int) -> str:
+        """Returns the message of a change that the system refuses, after others."""
+        for name, data in list(wanted.files.items())[changed:changed + 1]:
+            written = self.work / 'written'
+            return f'cannot write {written}/{name}' + ('' if data is None else f': its contents are in {written}/{wanted.temporary(name)}')
+        return ''
 
     def put_files(self, files: dict[str, bytes]) -> None:
         """Writes files below `written`."""
@@ -131,6 +178,6 @@ class FailureTest(ProgramTest):
         written = self.work / 'written'
         words = [self.put('calls.com', calls(*acts)), '--disk', written / 'a', '--out-b', written / 'b', '--disk-d', written / 'd']
         before = {'a/Keep': b'kept', 'a/ann': b'one', 'a/note.txt': b'o' * 200, 'a/old': b'old', 'd/X': b''}
-        files = {'a/ben': b'one' + b'\x1a' * 125, 'a/note.txt': RECORD + b'o' * 72 + b'\x1a' * 56, 'b/NEW': RECORD, 'd/Y': b'',
+        files = {'b/NEW': RECORD, 'a/ben': b'one' + b'\x1a' * 125, 'd/Y': b'', 'a/note.txt': RECORD + b'o' * 72 + b'\x1a' * 56,
                  'a/ann': None, 'a/old': None, 'd/X': None}
         return words, 'stop WarmBoot\ngone ANN\ngone OLD\ngone D:X\n', before, files

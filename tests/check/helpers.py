@@ -1,14 +1,16 @@
 """What the tests share. The environment variables PROGRAM, DEPENDENCIES_PROGRAM and TRACE_PROGRAM name the built programs, cpmrun, cpmdeps and
 cpmtrace."""
 import contextlib
+import errno
 import os
 import shutil
 import signal
 import subprocess
 import sys
 import tempfile
+import time
 import unittest
-from collections.abc import Iterable
+from collections.abc import Iterable, Iterator
 from dataclasses import dataclass
 from pathlib import Path
 
@@ -35,13 +37,13 @@ RECORD = b'new' + bytes(125)
 """The record that programs of `calls` write."""
 
 
-def calls(*acts: str) -> bytes:
+def calls(*acts: str, end: str = 'RET') -> bytes:
     """Returns a program that makes calls of files: a number and one name or two, as in `22 B:NEW.TXT` and `23 OLD NEW`. Acts with the same
-    names share a control block. Each record that is written is RECORD."""
+    names share a control block. Each record that is written is RECORD. The instructions of `end` come last."""
     pairs = [act.split(' ', 1) for act in acts]
     blocks = {names: f'block_{chr(97 + at)}' for at, names in enumerate(dict.fromkeys(names for _, names in pairs))}
     code = ['MVI C,26; LXI D,record; CALL 5', *(f'MVI C,{number}; LXI D,{blocks[names]}; CALL 5' for number, names in pairs)]
-    code += ['RET', 'record: DB "new"; DS 125']
+    code += [end, 'record: DB "new"; DS 125']
     for names, label in blocks.items():
         code.append(f'{label}:')
         for name in [*names.split(), ''][:2]:
@@ -101,6 +103,16 @@ def words_of_case(case: Path) -> list[str]:
 def files_below(folder: Path) -> dict[str, bytes]:
     """Returns the files below a folder, by their paths from there."""
     return {path.relative_to(folder).as_posix(): path.read_bytes() for path in folder.rglob('*') if path.is_file()}
+
+
+def open_writer(fifo: Path) -> int | None:
+    """Opens a FIFO for writing, if a reader has opened it."""
+    try:
+        return os.open(fifo, os.O_WRONLY | os.O_NONBLOCK)
+    except OSError as error:
+        if error.errno != errno.ENXIO:
+            raise
+        return None
 
 
 def build_library(source: str, folder: Path) -> Path:
@@ -171,6 +183,33 @@ class ProgramTest(unittest.TestCase):
                 with contextlib.suppress(ProcessLookupError):
                     os.killpg(process.pid, signal.SIGKILL)
         return subprocess.CompletedProcess(words, process.returncode, out, err)
+
+    @contextlib.contextmanager
+    def held(self, *words: object) -> Iterator[subprocess.Popen]:
+        """Starts the program, and holds it during the block: it has read its host files, and waits for its script, which is empty."""
+        script = Path(tempfile.mkdtemp(dir=self.work)) / 'script'
+        os.mkfifo(script)
+        process = self.start(*words, '--console', script)
+        end = time.monotonic() + 20
+        while (held := open_writer(script)) is None:
+            self.assertTrue(process.poll() is None and time.monotonic() < end, 'the script is not opened')
+            time.sleep(0.01)
+        try:
+            yield process
+        finally:
+            os.close(held)
+
+    def start(self, *words: object) -> subprocess.Popen:
+        """Starts the program with nothing on standard input. It is killed if it still runs at the end of the test."""
+        process = subprocess.Popen([PROGRAM, *words], stdin=subprocess.DEVNULL, stdout=subprocess.PIPE, stderr=subprocess.PIPE, cwd=TOP)
+        self.addCleanup(process.communicate)
+        self.addCleanup(process.kill)
+        return process
+
+    def expect_end(self, status: int, out: str, err: str, process: subprocess.Popen) -> None:
+        """Expects this status, standard output and standard error of a process."""
+        found = process.communicate(timeout=60)
+        self.assertEqual((process.returncode, *found), (status, out.encode(), err.encode()))
 
     def expect_names(self, folder: Path, *names: str) -> None:
         """Expects exactly these names in a folder."""

@@ -21,19 +21,17 @@ CHECKPOINT_WORDS = {
     'TicksTo', 'session_answers', 'rerun_start', 'with_no_checkpoint',
 }
 """The words of clauses that say which steps a run executes again, what becomes of the checkpoints and of the meter, and which allocations may
-fail. They count only for the last group."""
-
-RULE_WORDS = {'RunsWithRule', 'BreaksWithRule'}
-"""The words of clauses that say what is written with `cpmrun --deps`. They count only for the group of rules."""
+fail. They count only for the group of checkpoints."""
 
 REPORT = [f'Report::{name}' for name in ('cause', 'steps', 'regs', 'text', 'cell', 'has', 'records', 'record', 'next_changed', 'files')]
 CHECKPOINTS = 'Which steps are executed again, and what input a run depends on'
-RULES = 'What `cpmdeps` prints, and the rule of `cpmrun --deps`'
 GROUPS = {
     'What a run gives': [('replay', 'runner', ['Runner::rerun']), ('replay', 'report', REPORT)],
-    'What a session and its edits are': [('machine', 'session', ['Session::new']), ('replay', 'runner', ['Runner::new', 'Runner::edit'])],
-    'What edit lines give': [('edit_lines', 'stream', ['replay'])],
-    'What the program does': [('cpmrun', 'command_line', ['command'])],
+    'What a session and its edits are, and what edit lines give': [
+        ('machine', 'session', ['Session::new']),
+        ('replay', 'runner', ['Runner::new', 'Runner::edit']),
+        ('edit_lines', 'stream', ['replay']),
+    ],
     CHECKPOINTS: [
         ('replay', 'runner', ['Runner::new', 'Runner::edit', 'Runner::rerun', 'prefix_dependence', 'plain_run_is_cold']),
         ('machine', 'laws', ['plain_machine_is_laid']),
@@ -42,8 +40,12 @@ GROUPS = {
         ('replay', 'report', ['Report::journal']),
         ('edit_lines', 'stream', ['replay']),
     ],
-    RULES: [('dependency_command', 'command_line', ['dependency_command']), ('cpmrun', 'command_line', ['command'])],
-    'What `cpmtrace` prints': [('trace_command', 'command_line', ['trace_command'])],
+    'What a rule for `make` and a trace have': [('make_rules', 'rule', ['rule_of_run']), ('tracing', 'trace', ['write_trace', 'call_trace'])],
+    'What the program does': [('cpmrun', 'command_line', ['command'])],
+    'What `cpmdeps` and `cpmtrace` print': [
+        ('dependency_command', 'command_line', ['dependency_command']),
+        ('trace_command', 'command_line', ['trace_command']),
+    ],
 }
 """The functions of each group, by crate, source and name. A key is the heading of a part of the page."""
 
@@ -92,7 +94,7 @@ def cited_files(heading: str) -> Iterator[Path]:
             if name not in contracts:
                 raise LookupError(f'crates/{crate}/src/{module}.rt has no function {name}')
         words = [word for name in names for word in re.findall(r"(?<![\w.'-])[A-Za-z_][\w'-]*", contracts[name])]
-        skipped = (set() if heading == CHECKPOINTS else CHECKPOINT_WORDS) | (set() if heading == RULES else RULE_WORDS)
+        skipped = set() if heading == CHECKPOINTS else CHECKPOINT_WORDS
         defined = [word for word in words if word in modules and word not in skipped]
         yield from filter(None, (path_of(modules[word]) for word in defined))
 

@@ -345,6 +345,19 @@ class PermissionTest(CommandTest):
         self.expect_command(1, '', f'cpmrun: cannot write {folder}/a.txt\n', *self.nobody, delete, '--disk', folder)
         self.expect_names(folder, 'a.txt')
 
+    def test_an_unwritable_disk_is_as_it_was(self) -> None:
+        """A disk that is only read may be sealed."""
+        folder = self.make_folder('sealed')
+        self.put('sealed/a.txt', 'one')
+        self.put('sealed/old', 'one')
+        self.set_mode(folder, 0o555)
+        for name, acts in ('a.txt', ['21 A.TXT', '19 OLD']), ('new', ['22 NEW', '21 A.TXT']), ('new', ['23 OLD NEW']):
+            program = self.put('calls.com', calls(*acts))
+            self.expect_command(1, '', f'cpmrun: cannot write {folder}/{name}\n', *self.nobody, program, '--disk', folder)
+        self.expect_names(folder, 'a.txt', 'old')
+        self.expect_bytes(folder / 'a.txt', b'one')
+        self.expect_command(0, '', WARM_BOOT, *self.nobody, self.put('calls.com', calls('15 A.TXT')), '--disk', folder)
+
 
 class WrittenFileTest(CommandTest):
     """Which files are written where."""
@@ -424,47 +437,49 @@ class WrittenFileTest(CommandTest):
         self.expect_bytes(after / 'A', A_OF_THREE)
         self.expect_bytes(after / 'B', b'old\n')
 
-    def test_links_are_replaced_and_folders_are_not(self) -> None:
+    def test_links_and_folders_are_not_replaced(self) -> None:
         folder = self.make_folder('taken')
         self.make_folder('taken/C')
         kept = self.put('kept', 'kept\n')
-        (folder / 'A').symlink_to('../kept')
-        self.expect(1, '.', f'cpmrun: cannot write {folder}/C\n', self.three, 'a', '--out', folder)
+        self.expect(1, '.', f'cpmrun: cannot write {folder}/C: it is no regular file\n', self.three, 'a', '--out', folder)
         self.expect_names(folder, 'A', 'B', 'C')
-        self.assertFalse((folder / 'A').is_symlink())
         self.expect_bytes(folder / 'A', A_OF_THREE)
         self.expect_bytes(folder / 'B', B_OF_THREE)
+        for name in 'A', 'B':
+            (folder / name).unlink()
+        (folder / 'A').symlink_to('../kept')
+        self.expect(1, '.', f'cpmrun: cannot write {folder}/A: it is no regular file\n', self.three, 'a', '--out', folder)
+        self.expect_names(folder, 'A', 'C')
+        self.assertTrue((folder / 'A').is_symlink())
         self.expect_bytes(kept, b'kept\n')
         self.expect_names(folder / 'C')
 
-    def test_leftovers_under_the_names_written_first_are_replaced(self) -> None:
-        """Replaces a link, a FIFO without a reader, and a file that may not be written, but no folder."""
+    def test_what_has_a_temporary_name_stays(self) -> None:
+        """A link, a FIFO without a reader, a file that may not be written, and a folder."""
         folder = self.make_folder('first')
         kept = self.put('kept', 'kept\n')
         (folder / '.A.new').symlink_to('../kept')
         os.mkfifo(folder / '.B.new')
         self.put('first/.C.new', 'left\n').chmod(0o444)
+        self.make_folder('first/.C.new.1')
         self.expect(0, '.', WARM_BOOT, self.three, 'a', '--out', folder, timeout=20)
-        self.expect_names(folder, 'A', 'B', 'C')
-        self.assertFalse((folder / 'A').is_symlink())
-        self.assertTrue((folder / 'B').is_file())
+        self.expect_names(folder, '.A.new', '.B.new', '.C.new', '.C.new.1', 'A', 'B', 'C')
+        self.assertTrue((folder / '.A.new').is_symlink() and (folder / '.B.new').is_fifo())
         self.expect_bytes(folder / 'A', A_OF_THREE)
         self.expect_bytes(folder / 'B', B_OF_THREE)
+        self.expect_bytes(folder / '.C.new', b'left\n')
         self.expect_bytes(kept, b'kept\n')
-        self.make_folder('first/.A.new')
-        self.expect(1, '.', f'cpmrun: cannot write {folder}/A\n', self.three, 'a', '--out', folder)
-        self.expect_names(folder, '.A.new', 'A', 'B', 'C')
-        self.expect_bytes(folder / 'A', A_OF_THREE)
 
-    def test_a_folder_that_is_read_may_be_written_to(self) -> None:
+    def test_a_host_file_is_written_with_the_records_that_it_had(self) -> None:
         """The host file b has one record, and the run adds a second one as record 32 of B."""
-        folder = self.make_folder('both')
-        self.put('both/b', 'old')
-        self.expect(0, '.', WARM_BOOT, self.three, 'a', '--files', folder, '--out', folder)
-        self.expect_names(folder, 'A', 'B', 'C', 'b')
+        folder = self.make_folder('read')
+        out = self.make_folder('written')
+        self.put('read/b', 'old')
+        self.expect(0, '.', WARM_BOOT, self.three, 'a', '--files', folder, '--out', out)
+        self.expect_names(folder, 'b')
+        self.expect_names(out, 'A', 'B', 'C')
         self.expect_bytes(folder / 'b', b'old')
-        self.expect_bytes(folder / 'B', b'old' + b'\x1a' * 125 + bytes(3968) + A_OF_THREE)
-        self.expect_error('two files are B', HI, '--files', folder)
+        self.expect_bytes(out / 'B', b'old' + b'\x1a' * 125 + bytes(3968) + A_OF_THREE)
 
     def test_each_drive_has_its_folder(self) -> None:
         a, b, c, d, two, four = (self.make_folder(name) for name in ['a', 'b', 'c', 'd', 'two', 'four'])
@@ -481,12 +496,13 @@ class WrittenFileTest(CommandTest):
         self.expect_names(four)
 
     def test_edit_lines_write_no_file(self) -> None:
-        folder = self.make_folder('unwritten')
+        folder, other = self.make_folder('unwritten'), self.make_folder('other')
         edits = self.put('edits', 'run\n')
-        done = self.run_command(PROGRAM, self.drives, 'x', '--out', folder, '--out-d', folder, '--edits', edits)
+        done = self.run_command(PROGRAM, self.drives, 'x', '--out', folder, '--out-d', other, '--edits', edits)
         self.assertEqual(done.returncode, 0, done.stderr)
         self.assertRegex(done.stdout, re.compile(rb'^file D:X 0000', re.MULTILINE))
         self.expect_names(folder)
+        self.expect_names(other)
 
 
 class InputTest(CommandTest):

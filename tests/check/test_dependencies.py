@@ -320,6 +320,10 @@ class ListingTest(DependenciesTest):
         opens, out = self.put('opens.com', OPEN_TWO), 'stop Limit\n'
         self.expect(0, out, '', '--limit=0', f'--files={folder}', f'--files-d={folder}', '--', opens, '-x y')
         self.expect(0, out, '', opens, '--limit', '0', '--console', opens, '--by-step')
+        (folder / 'x').touch()
+        listed = self.run_command(DEPENDENCIES_PROGRAM, opens, 'b:x', '--files-b', folder).stdout
+        self.assertIn(b'file B:X step 9\n', listed)
+        self.expect(0, listed, '', opens, 'b:x', '--disk-b', folder)
         done = self.run_command(DEPENDENCIES_PROGRAM, GREETING, '--console', self.put('script', 'Ada\r'))
         self.expect(0, done.stdout, '', GREETING, '--typed', 'Ada')
 
@@ -394,7 +398,9 @@ class ErrorTest(DependenciesTest):
             ([HI, '--typed', 'x', '--console', 'y', '--by-step', '--make', 'made'],
              "error: the argument '--make <TARGET>' cannot be used with '--by-step'"),
             (['none.com', '--typed', r'a\q'], r"error: invalid value 'a\q' for '--typed <TEXT>': unknown escape after a backslash"),
-            ([HI, '--disk', 'x'], "error: unexpected argument '--disk' found"),
+            ([HI, '--disk-b', 'x', '--files-b', 'y'], "error: the argument '--files-b <DIR>' cannot be used with '--disk-b <DIR>'"),
+            ([HI, '--partial'], "error: unexpected argument '--partial' found"),
+            ([HI, '--trace', 'x'], "error: unexpected argument '--trace' found"),
             ([HI, '--limit', '4000000001'], "error: invalid value '4000000001' for '--limit <N>': 4000000001 is not in 0..=4000000000"),
         ]:
             with self.subTest(first):

@@ -36,7 +36,7 @@ class Refusals(Failures):
     def test_each_allocation_fails(self) -> None:
         words, files = self.words_and_files()
         for before in {}, dict.fromkeys(files, b'o' * 1000):
-            self.each_in_turn(Wanted(b'', WARM + b'gone X\n', may_be_cut=False, files=files, before=before), *words)
+            self.each_in_turn(Wanted(b'', WARM + b'gone X\n', may_be_cut=False, files=files, outside=1, before=before), *words)
         for words in [HI, '--deps', 'a:'], [HI, '--edits', 'none', '--deps', 'none']:
             self.each_in_turn(Wanted(b'', self.run_command(PROGRAM, *words).stderr, status=1, may_be_cut=False), *words)
 
@@ -46,13 +46,15 @@ class Devices(Failures):
 
     def each_call_fails(self) -> None:
         words, files = self.words_and_files()
-        unread = words[0], f'{self.work}/host', f'{self.work}/host/x'
-        messages = (*(f'cannot read {path}' for path in unread), *(f'cannot write {self.work}/written/{name}' for name in files))
+        written = self.work / 'written'
+        unread = words[0], self.work / 'host', self.work / 'host/x', written / 'a', written / 'a/Y', written / 'd', written / 'd/rule'
+        messages = (*(f'cannot read {path}' for path in unread), *(f'cannot write {written}/{name}' for name in (*files, 'a/.Y.new', 'd/.rule.new')))
         for before in {}, dict.fromkeys(files, b'o' * 1000):
-            self.each_in_turn(Wanted(b'', WARM + b'gone X\n', fault_status=1, messages=messages, may_pass=False, files=files, before=before), *words)
+            wanted = Wanted(b'', WARM + b'gone X\n', fault_status=1, messages=messages, may_pass=False, files=files, outside=1, before=before)
+            self.each_in_turn(wanted, *words)
 
     def test_each_call_fails(self) -> None:
-        self.environment = {'FAIL_CALLS': 'orwdsn'}
+        self.environment = {'FAIL_CALLS': 'orwdsyn'}
         self.each_call_fails()
 
     def test_each_read_or_write_of_one_byte_fails(self) -> None:
@@ -131,7 +133,7 @@ class DepsTest(DependenciesTest):
         self.put('write.com', WRITE_AND_SEARCH)
         for tail, found in ('new first', {'ONE'}), ('new second', {'ONE', 'NEW'}):
             self.assertEqual({path.name for path in (self.work / 'disk').iterdir()}, found)
-            rule = self.run_with_rule('write.com', tail, '--files', 'disk', '--out', 'disk')
+            rule = self.run_with_rule('write.com', tail, '--disk', 'disk')
             self.assertEqual(rule.partition('\n')[0].split(' $')[0], 'disk/NEW: write.com disk/ONE disk/')
         self.touch(1, 'write.com', 'disk/ONE', 'disk', 'disk/NEW')
         self.assertFalse(self.is_made('disk/NEW'))

@@ -23,24 +23,26 @@ class Devices(FailureTest):
         replay = Wanted((TOP / 'examples/greeting/edits.out').read_bytes(), messages=(unread, f'cannot read {EDITS}', unwritten), **console)
         self.each_in_turn(replay, GREETING, '--edits', EDITS)
         words, files = self.drive_words()
-        messages = (f'cannot read {words[0]}', f'cannot read {self.work}/host', f'cannot read {self.work}/host/x',
-                    *(f'cannot write {self.work}/written/{name}' for name in files))
+        messages = (*(f'cannot read {path}' for path in (words[0], self.work / 'host', self.work / 'host/x')),
+                    *(f'cannot read {self.work}/written/{drive}' for drive in 'abcd'),
+                    *(f'cannot write {self.work}/written/{name}' for name in (*files, *(f'{drive}/.X.new' for drive in 'abcd'))))
         for before in {}, dict.fromkeys(files, b'o' * 1000):
-            self.each_in_turn(Wanted(b'', b'stop WarmBoot\n', messages=messages, files=files, before=before, **console), *words)
+            self.each_in_turn(Wanted(b'', b'stop WarmBoot\n', messages=messages, files=files, outside=4, before=before, **console), *words)
         words, stop, before, files = self.disk_words()
-        messages = (f'cannot read {words[0]}', *(f'cannot read {self.work}/written/{name}' for name in ('a', 'd', *before)),
-                    *(f'cannot write {self.work}/written/{name}' for name in files))
-        self.each_in_turn(Wanted(b'', stop.encode(), messages=messages, files=files, before=before, **console), *words)
+        wanted = Wanted(b'', stop.encode(), files=files, outside=1, before=before, **console)
+        wanted.messages = (f'cannot read {words[0]}', *(f'cannot read {self.work}/written/{name}' for name in ('a', 'b', 'd', *before)),
+                           *(f'cannot write {self.work}/written/{name}' for name in ('a', 'd', *files, *wanted.prepared(0))))
+        self.each_in_turn(wanted, *words)
 
     def test_each_call_fails(self) -> None:
-        self.environment = {'FAIL_CALLS': 'orwdsmn'}
+        self.environment = {'FAIL_CALLS': 'orwdslmyn'}
         self.each_call_fails()
 
-    def test_each_removal_fails(self) -> None:
-        self.environment = {'FAIL_CALLS': 'u'}
+    def test_each_change_fails(self) -> None:
+        """The message is that of a file that is not renamed or removed, and no other."""
+        self.environment = {'FAIL_CALLS': 'nu'}
         words, stop, before, files = self.disk_words()
-        messages = tuple(f'cannot write {self.work}/written/{name}' for name, data in files.items() if data is None)
-        self.each_in_turn(Wanted(b'', stop.encode(), fault_status=1, messages=messages, files=files, before=before), *words)
+        self.each_in_turn(Wanted(b'', stop.encode(), fault_status=1, messages=(), may_pass=False, files=files, outside=1, before=before), *words)
 
     def test_each_read_or_write_of_one_byte_fails(self) -> None:
         self.environment = {'FAIL_CALLS': 'rw', 'FAIL_PIECES': '1'}

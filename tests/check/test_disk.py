@@ -4,7 +4,7 @@ import os
 import shutil
 
 from helpers import PROGRAM, RECORD, TOP, ProgramTest, calls, words_of_case
-from test_command import NOT_HOST_NAMES, limit_file_size
+from test_command import NOT_HOST_NAMES
 from test_programs import files_of
 
 WARM_BOOT = 'stop WarmBoot\n'
@@ -78,54 +78,32 @@ class KeptTest(DiskTest):
         self.expect_names(self.disk, *names)
         self.assertEqual([(self.disk / name).read_text() for name in [*NOT_HOST_NAMES, 'sub/a.txt']], ['kept'] * (len(NOT_HOST_NAMES) + 1))
 
-    def test_a_link_at_the_name_of_a_new_file_is_replaced(self) -> None:
-        kept = self.put('kept', 'kept')
-        (self.disk / 'new').symlink_to('../kept')
+    def test_a_disk_may_be_a_link(self) -> None:
         (self.work / 'to-disk').symlink_to('disk')
         self.disk = self.work / 'to-disk'
         self.run_calls('22 NEW', '21 NEW')
-        self.assertFalse((self.disk / 'new').is_symlink())
-        self.expect_files(new=RECORD)
-        self.assertEqual(kept.read_text(), 'kept')
+        self.assertTrue(self.disk.is_symlink())
+        self.expect_files(NEW=RECORD)
 
 
-class OrderTest(DiskTest):
-    """What is done when something cannot be written or removed."""
-
-    def test_a_file_that_cannot_be_written_whole_keeps_its_old_contents(self) -> None:
-        """No file may be longer than 4,096 bytes; BEN would be."""
-        for name in 'ann', 'ben', 'cid', 'old':
-            self.put(f'disk/{name}', name)
-        program = self.put('calls.com', calls('19 OLD', '21 ANN', *['21 BEN'] * 33, '21 CID'))
-        self.expect(1, '', f'cpmrun: cannot write {self.disk}/ben\n', program, '--disk', self.disk, preexec_fn=limit_file_size)
-        self.expect_files(ann=RECORD, ben=b'ben', cid=b'cid', old=b'old')
-
-    def test_a_folder_at_the_temporary_name_keeps_a_file_from_being_written(self) -> None:
-        self.put('disk/Note.txt', 'old')
-        self.put('disk/b', 'one')
-        (self.disk / '.Note.txt.new').mkdir()
-        self.expect(1, '', f'cpmrun: cannot write {self.disk}/Note.txt\n', self.put('calls.com', calls('21 NOTE.TXT', '19 B')), '--disk', self.disk)
-        self.expect_names(self.disk, '.Note.txt.new', 'Note.txt', 'b')
-        (self.disk / '.Note.txt.new').rmdir()
-        self.put('disk/.Note.txt.new', 'a part that an earlier run left')
-        self.run_calls('21 NOTE.TXT', '19 B', gone='B')
-        self.expect_files(**{'Note.txt': RECORD})
+class StopTest(DiskTest):
+    """What is done whatever the stop is, and if it cannot be written."""
 
     def test_the_text_and_the_files_are_there_if_the_stop_cannot_be_written(self) -> None:
         self.put('disk/a', 'one')
         self.expect(0, '', '', self.put('calls.com', calls('23 A B')), '--disk', self.disk, preexec_fn=lambda: os.close(2))
         self.expect_files(b=PADDED)
 
-    def test_files_are_changed_whatever_the_stop_is(self) -> None:
+    def test_with_partial_files_are_changed_whatever_the_stop_is(self) -> None:
         """A call is five steps, and the first one sets the buffer; so the limit comes before the last call."""
         self.put('disk/old', 'one')
         program = self.put('calls.com', calls('22 A', '21 A', '19 OLD', '22 B', '22 C'))
-        self.expect(3, '', 'stop Limit\ngone OLD\n', program, '--disk', self.disk, '--limit', '29')
+        self.expect(3, '', 'stop Limit\ngone OLD\n', program, '--disk', self.disk, '--limit', '29', '--partial')
         self.expect_files(a=RECORD, b=b'')
 
 
 class SameTest(DiskTest):
-    """A disk, and one folder for `--files` and `--out`."""
+    """A disk, and folders for `--files` and `--out`."""
 
     def test_a_disk_has_what_files_and_out_have_and_nothing_that_is_gone(self) -> None:
         """The names of these cases are in upper case."""
@@ -133,13 +111,14 @@ class SameTest(DiskTest):
         self.assertGreater(len(cases), 10)
         for case in cases:
             with self.subTest(case=case.relative_to(TOP)):
-                disk, both = (self.work / f'{case.parent.parent.name}-{case.name}-{kind}' for kind in ('disk', 'both'))
-                for folder in disk, both:
-                    shutil.copytree(case / 'files', folder)
+                disk, out = (self.work / f'{case.parent.parent.name}-{case.name}-{kind}' for kind in ('disk', 'out'))
+                shutil.copytree(case / 'files', disk)
+                out.mkdir()
                 words = words_of_case(case)
                 at = words.index('--files')
                 done, other = (self.run_command(PROGRAM, *words[:at], *more, *words[at + 2:], cwd=case)
-                               for more in (['--disk', disk], ['--files', both, '--out', both]))
+                               for more in (['--disk', disk, '--partial'], ['--files', 'files', '--out', out]))
                 self.assertEqual((done.returncode, done.stdout, done.stderr), (other.returncode, other.stdout, other.stderr))
                 gone = [line.removeprefix('gone ') for line in other.stderr.decode().splitlines() if line.startswith('gone ')]
-                self.assertEqual(files_of(disk), {name: data for name, data in files_of(both).items() if name not in gone})
+                left = {**files_of(case / 'files'), **files_of(out)}
+                self.assertEqual(files_of(disk), {name: data for name, data in left.items() if name not in gone})

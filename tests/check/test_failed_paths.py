@@ -8,12 +8,13 @@ class CallsTest(FailureTest):
 
     library = 'fail'
 
-    def expect_messages(self, calls: str, *messages: str) -> None:
+    def expect_messages(self, calls: str, *messages: str, disks: bool = False) -> None:
         """Expects one of these messages for each failing call of the kinds of these letters, and each message at some call."""
-        words, _ = self.drive_words()
+        words, before = self.disk_words()[::2] if disks else (self.drive_words()[0], {})
         self.environment = {'FAIL_CALLS': calls}
         told = set()
         for at in range(1, 1001):
+            self.put_files(before)
             done = self.run_with_failure(at, self.program, *words)
             self.take_files()
             if not self.mark.exists():
@@ -25,16 +26,23 @@ class CallsTest(FailureTest):
         self.assertEqual(len(told), len(messages))
 
     def test_the_state_of_a_file_names_the_file(self) -> None:
-        self.host()
-        self.expect_messages('s', f'cannot read {self.work}/host/x', *(f'cannot write {self.work}/written/{drive}/X' for drive in 'abcd'))
+        """Of a folder, of a host file, and of what is at the path of a file that is written, or has its temporary name."""
+        folders = [self.work / 'written' / drive for drive in 'abcd']
+        self.expect_messages('s', *(f'cannot read {path}' for path in (self.host(), *folders, self.work / 'host/x')),
+                             *(f'cannot write {folder}/X' for folder in folders))
 
     def test_the_entries_of_a_folder_name_the_folder(self) -> None:
         self.host()
         self.expect_messages('d', f'cannot read {self.work}/host')
 
-    def test_a_rename_names_the_file_that_is_written(self) -> None:
+    def test_a_rename_names_the_file_that_is_written_and_where_it_is(self) -> None:
         self.host()
-        self.expect_messages('n', *(f'cannot write {self.work}/written/{drive}/X' for drive in 'abcd'))
+        self.expect_messages('n', *(f'cannot write {self.work}/written/{drive}/X: its contents are in {self.work}/written/{drive}/.X.new'
+                                    for drive in 'abcd'))
+
+    def test_a_sync_names_the_file_that_is_written_or_the_disk(self) -> None:
+        names = 'a/ben', 'd/Y', 'a/note.txt', 'a', 'd'
+        self.expect_messages('y', *(f'cannot write {self.work}/written/{name}' for name in names), disks=True)
 
     def test_a_write_names_the_file_that_is_written(self) -> None:
         self.host()
@@ -46,16 +54,15 @@ class CallsTest(FailureTest):
                              *(f'cannot write {self.work}/written/{drive}/X' for drive in 'abcd'))
 
     def test_a_removal_names_the_file_that_stays(self) -> None:
-        """Before each of the four files is written, what has its temporary name is removed; it is no error if that fails."""
-        words, stop, before, _ = self.disk_words()
+        words, _, before, _ = self.disk_words()
         self.environment = {'FAIL_CALLS': 'u'}
         ends = []
-        for at in range(1, 8):
+        for at in range(1, 4):
             self.put_files(before)
             ends.append(self.run_with_failure(at, self.program, *words).stderr.decode())
             self.assertTrue(self.mark.exists())
             self.take_files()
-        self.assertEqual(ends, [stop] * 4 + [f'cpmrun: cannot write {self.work}/written/{name}\n' for name in ('a/ann', 'a/old', 'd/X')])
+        self.assertEqual(ends, [f'cpmrun: cannot write {self.work}/written/{name}\n' for name in ('a/ann', 'a/old', 'd/X')])
 
 
 class OrderTest(ProgramTest):

@@ -3,6 +3,7 @@ import re
 import shutil
 
 from helpers import DEPENDENCIES_PROGRAM, HI, PROGRAM, TOP, TRACE_PROGRAM, ProgramTest
+from vembrusk.assembler import assemble
 
 PROGRAMS = {'cpmrun': PROGRAM, 'cpmdeps': DEPENDENCIES_PROGRAM, 'cpmtrace': TRACE_PROGRAM}
 NUMBERS = {'cpmrun': ['--limit', '--slots', '--spacing'], 'cpmdeps': ['--limit'], 'cpmtrace': ['--from', '--last', '--limit', '--to']}
@@ -69,6 +70,16 @@ class HelpTextTest(ProgramTest):
             sentence, _, stated = text.removesuffix(']').partition(' [default: ')
             self.assertTrue(has_in_order(meaning, words_of(sentence)), f'{words}: {sentence}')
             self.assertIn(stated, ('', default.replace(',', '')), words)
+
+    def test_the_default_limit_of_the_help_is_the_one_that_is_taken(self) -> None:
+        """The program takes about 1,050,000 steps."""
+        program = self.put('wait.com', assemble(['MVI D,4', 'wait: LXI B,0', 'inner: DCX B; MOV A,B; ORA C; JNZ inner', 'DCR D; JNZ wait; RET']))
+        for name, runner in PROGRAMS.items():
+            self.assertIn('[default: 1000000; with a disk 4000000000]', self.help_of(name)['--limit N'])
+            for words, cause in ([], 'Limit'), (['--files=.'], 'Limit'), (['--disk-c=.'], 'WarmBoot'), (['--disk-b=.', '--limit=1000000'], 'Limit'):
+                with self.subTest(program=name, words=words):
+                    done = self.run_command(runner, program, *words, cwd=self.work)
+                    self.assertEqual((done.stderr if name == 'cpmrun' else done.stdout).splitlines()[-1].decode(), f'stop {cause}')
 
     def test_the_ranges_of_the_help_are_the_ones_that_are_taken(self) -> None:
         for name, program in PROGRAMS.items():

@@ -2,7 +2,8 @@
 
 A block of commands is fenced by ```sh, and bash runs it at the top of the copy. The next block, if it is fenced by ```text, is what the
 commands print on standard output and standard error, without carriage returns; if there is none, they may print anything. Every block must
-end with status 0. The blocks of a page run one after another in a copy of their own. Blocks that are fenced by ```sh parallel are run by
+end with status 0. The blocks of a page run one after another in a copy of their own, and those of the manual also after those of the README,
+as a reader types them. Blocks that are fenced by ```sh parallel are run by
 test_many.py."""
 import re
 import shutil
@@ -49,12 +50,13 @@ def wrong_blocks(page: Path, copy: Path, env: dict[str, str] | None = None, fenc
 
 class PagesTest(ProgramTest):
 
-    def expect_page(self, name: str) -> None:
-        """Expects of each block of a page what the page says."""
-        self.assertTrue(blocks_of((TOP / name).read_text()))
+    def expect_page(self, *names: str) -> None:
+        """Expects of each block of a page, or of several in one folder, what the page says."""
         copy_tree(self.work)
-        if found := wrong_blocks(TOP / name, self.work):
-            self.fail('\n'.join(['', *found]))
+        for name in names:
+            self.assertTrue(blocks_of((TOP / name).read_text()))
+            if found := wrong_blocks(TOP / name, self.work):
+                self.fail('\n'.join(['', *found]))
 
     def test_the_pages_that_are_read_first_are_short(self) -> None:
         for name, most in LENGTHS.items():
@@ -68,6 +70,9 @@ class PagesTest(ProgramTest):
 
     def test_commands_of_the_manual(self) -> None:
         self.expect_page('docs/MANUAL.md')
+
+    def test_commands_of_the_manual_after_those_of_the_readme(self) -> None:
+        self.expect_page('README.md', 'docs/MANUAL.md')
 
     def test_commands_of_the_examples(self) -> None:
         self.expect_page('examples/README.md')

@@ -50,14 +50,14 @@ class Refusals(FailureTest):
 
     def test_changed_files(self) -> None:
         words, files = self.rename_words()
-        self.each_in_turn(Wanted(b'', WARM + b'gone X\n', may_be_cut=False, files=files), *words)
+        self.each_in_turn(Wanted(b'', WARM + b'gone X\n', may_be_cut=False, files=files, outside=1), *words)
         words, files = self.drive_words()
-        self.each_in_turn(Wanted(b'', WARM, may_be_cut=False, files=files), *words)
+        self.each_in_turn(Wanted(b'', WARM, may_be_cut=False, files=files, outside=4), *words)
 
     def test_disks(self) -> None:
         words, stop, before, files = self.disk_words()
         for more in [], ['--deps', self.work / 'rule']:
-            self.each_in_turn(Wanted(b'', stop.encode(), may_be_cut=False, files=files, before=before), *words, *more)
+            self.each_in_turn(Wanted(b'', stop.encode(), may_be_cut=False, files=files, outside=1, before=before), *words, *more)
 
     def test_typed_text(self) -> None:
         words = [EXAMPLES / 'greeting/greeting.com', '--typed']

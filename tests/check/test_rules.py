@@ -181,7 +181,8 @@ disk/:
         self.make_folder('a disk')
         self.touch(1, 'it.com')
         for folder, target, wildcard in [('.', 'a.txt', ' $(wildcard ./A.TXT)'), ('.', './/A.TXT', ' $(wildcard ./a.txt)'),
-                                         ('./a disk', 'a disk/A.TXT', '')]:
+                                         ('./a disk', 'a disk/A.TXT', ''), ('././/a disk', './a disk/A.TXT', ''),
+                                         ('./././/.', './/./a.txt', ' $(wildcard ./././/./A.TXT)')]:
             with self.subTest(folder, target=target):
                 rule = self.rule('it.com', 'a.txt a.txt', '--files', folder, '--make', target)
                 escaped = target.replace(' ', r'\ ')
@@ -215,27 +216,27 @@ class PathTest(RulesTest):
                          'search.com', '*.*', '--files', 'd $ #')
 
     def test_a_path_is_refused_before_anything_is_read(self) -> None:
-        for path in 'a\nb', 'a=b', 'q;touch x/it.com', '%.com', 'x[1]', '~', './~root':
+        for path in 'a\nb', 'a=b', 'q;touch x/it.com', '%.com', 'x[1]', '~', './~root', '././~root/s', './/./~':
             with self.subTest(path):
                 self.expect(1, '', f'{CANNOT_HAVE}{path}\n', 'none.com', '--make', path)
                 self.expect(1, '', f'{CANNOT_HAVE}{path}\n', path, '--make', 'made')
                 self.expect(1, '', f'{CANNOT_HAVE}{path}\n', 'none.com', '--make', 'made', '--console', path)
                 self.expect(1, '', f'{CANNOT_HAVE}{path}\n', 'none.com', '--make', 'made', '--files-d', path)
                 self.expect(1, '', 'cpmdeps: cannot read none.com\n', 'none.com', '--console', path)
-        for path in 'made ', 'lib(a)', 'made\\', '.PHONY':
+        for path in 'made ', 'lib(a)', 'made\\', '.PHONY', './.IGNORE', './/././.PHONY':
             self.expect(1, '', f'{CANNOT_HAVE}{path}\n', 'none.com', '--make', path)
             self.expect(1, '', 'cpmdeps: cannot read none.com\n', 'none.com', '--make', 'made', '--files', path)
 
     def test_each_byte_in_each_place(self) -> None:
-        """A path with each byte alone, first, last and in the middle: the rule makes the target again exactly if the path changes or, unless
-        it is the program's, is gone; or the path is refused."""
-        cases = [(role, path, byte) for role in ('target', 'program', 'folder', 'script') for byte in range(1, 256)
+        """A path with each byte alone, first, last and in the middle, also after `./`: the rule makes the target again exactly if the path
+        changes or, unless it is the program's, is gone; or the path is refused."""
+        cases = [(role, start + path, path, byte) for role in ('target', 'program', 'folder', 'script') for byte in range(1, 256)
                  for path in (bytes([byte]), bytes([byte]) + b'xy', b'xy' + bytes([byte]), b'x' + bytes([byte]) + b'y')
-                 if not (path.startswith(b'/') or path.endswith(b'/') or path == b'.')]
+                 if not (path.startswith(b'/') or path.endswith(b'/') or path == b'.') for start in (b'', b'./')]
         with ThreadPoolExecutor() as pool:
             answers = list(pool.map(lambda case: self.read_by_make(*case[:2]), cases))
-        for (role, path, byte), answer in zip(cases, answers):
-            end = path if role != 'folder' else path + b'/'
+        for (role, path, rest, byte), answer in zip(cases, answers):
+            end = rest if role != 'folder' else rest + b'/'
             refused = byte in EVERYWHERE or end[-1] in AT_THE_END or end[0] == ord('~')
             with self.subTest(role, path=path):
                 self.assertEqual(answer, 'not UTF-8' if byte > 127 else 'refused' if refused else 'read')

@@ -102,6 +102,7 @@ METER = r'\bMeter>?::|\bMeter as\b|\b(type|impl|for)\b.*\bMeter\b'
 STEPS = r'\brun_from\b|\bmachine::step\b|\buse\b.*\bmachine\b.*(\bstep\b|\*|\bas\b)'
 COMMAND = 'cpmrun/src/command_line.rt'
 LOOP = 'replay/src/run.rt'
+SYSTEM = 'folders/src/file_system.rt'
 CHECKPOINT = {
     'replay/src/ring.rt': 'pub struct Checkpoint { pub step: u64, pub state: SavedState, }',
     'machine/src/saved_state.rt': 'pub struct SavedState { regs: Regs, cells: Cells, spot: Spot, text_length: usize, journal: Journal, }',
@@ -114,18 +115,21 @@ MAY_REPORT_OUT_OF_MEMORY = {
     'command_words': 'error_class read_dependency_words read_trace_words read_words',
     'cpmdeps': 'main',
     'cpmtrace': 'main',
-    'cpmrun': 'replay_file',
+    'cpmrun': 'plan_report replay_file text_fault write_report',
     'dependency_command': 'write_listing write_rule',
+    'disks': 'disks_of id_at is_read_from lock lock_disks same_folders',
     'edit_lines': 'execute_edit hex_bytes',
     'executable': 'main',
-    'folders': 'add_file at host_file names_in note read_failure read_one set write_failure write_path',
+    'folders': 'add_file host_file names_in note read_failure read_one set write_failure',
     'hostfiles': 'number',
     'loading': 'read_fault tail_of typed_bytes typed_script',
     'make_rules': 'refusal',
-    'one_run': 'remove_one write_one',
+    'one_run': 'path_of',
+    'plan': 'look_into put remove trouble_of uncommitted unprepared',
     'replay': 'number',
-    'requests': 'clash_fault fixed_message message report_fault request_of_error status',
-    'trace_command': 'choose write_answer',
+    'requests': 'clash_fault fixed_message message report_fault request_of_error status taken_fault',
+    'trace_command': 'write_answer',
+    'tracing': 'call_trace',
 }
 """The functions of each crate that report out of memory themselves, not by `?` or in a `From`. Most turn one error into another, or into a
 number or a message."""
@@ -237,9 +241,15 @@ class SourcesTest(RuleTest):
         self.expect_count(1, r'\brun_from\(', LOOP)
 
     def test_a_file_is_only_written_where_there_is_none(self) -> None:
-        """What is at a path is not written through, be it a file or a link: no contract says how a file is opened."""
-        self.refuse(in_code(r'\b(create|truncate|append)\((true|false)\)|\bFile::create\b|\bfs::write\b'))
-        self.expect_count(1, r'\bcreate_new\(true\)', 'folders/src/file_system.rt')
+        """No contract says how a file is opened. One function writes through what is at a path, as a shell's `>` does: for reports whose path
+        is a device, a pipe or a link, which nothing replaces."""
+        self.refuse(in_code(r'\b(create|truncate|append)\((true|false)\)|\bFile::create\b|\bfs::write\b', SYSTEM))
+        self.expect_count(2, r'\b(create|truncate|append)\((true|false)\)|\bFile::create\b|\bfs::write\b', SYSTEM)
+        self.expect_count(1, r'\bwrite\(true\)\.create\(true\)\.truncate\(true\)', SYSTEM)
+        self.expect_count(1, r'\bcreate_new\(true\)', SYSTEM)
+        through = [f'{path.split("/")[0]}::{function.name.split("::")[-1]}' for path, code in product_code().items()
+                   for function in functions_of(code) if 'truncate(true)' in function.body or 'write_through(' in function.body]
+        self.assertEqual(sorted(through), ['folders::write_into', 'folders::write_through'])
 
     def test_no_macro_is_defined(self) -> None:
         """A macro can write any name, past all these rules."""

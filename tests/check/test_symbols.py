@@ -20,6 +20,9 @@ APART = [
 ]
 """What must be a function of its own apart from the loop: the rare and long paths, and what calls the loop."""
 
+TRIED = 'i8080::bus::fetch_word_apart'
+"""The one that a trace has too, over the memory of an instruction that is only tried."""
+
 
 @dataclass(frozen=True)
 class Symbol:
@@ -61,7 +64,7 @@ class SymbolTest(ProgramTest):
     def test_each_rare_path_is_one_function(self) -> None:
         for name in APART:
             with self.subTest(name):
-                self.assertEqual(len(self.named(name)), 1)
+                self.assertEqual(len(self.named(name)), 2 if name == TRIED else 1)
 
     def test_the_loop_calls_nothing(self) -> None:
         loop = self.loop()

@@ -41,6 +41,8 @@ class TraceWordsTest(ProgramTest):
         for words, first in [
             ([], 'error: the following required arguments were not provided:'),
             ([HI, '--make', 'x'], "error: unexpected argument '--make' found"),
+            ([HI, '--trace', 'x'], "error: unexpected argument '--trace' found"),
+            ([HI, '--disk', 'x', '--files', 'y'], "error: the argument '--files <DIR>' cannot be used with '--disk <DIR>'"),
             ([HI, '--at'], "error: a value is required for '--at <ADDR>' but none was supplied"),
             ([HI, '--console', 'x', '--typed', 'y'], "error: the argument '--console <FILE>' cannot be used with '--typed <TEXT>'"),
             ([HI, '--at=x', '--console', 'x', '--typed', 'y'], "error: the argument '--console <FILE>' cannot be used with '--typed <TEXT>'"),

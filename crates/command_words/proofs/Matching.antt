@@ -1,6 +1,6 @@
 -- What is read of the matches of a parse.
 use Rattle.std.proofs.Common.{◌≡◌, ◌∙◌, ◌≤◌, ◌<◌, ◌^◌, ℕ, List, [], ◌∷◌, Bool, map, unwrap_or, Option, Some, None, sym, ap, subst, refl, true, false, codes}
-use Rattle.std.specs.Prelude.{IfNone, IfSome, Result, Ok, Err, option_map}
+use Rattle.std.specs.Prelude.{IfNone, IfSome, Result, Ok, Err, is_some, option_map}
 use Rattle.std.specs.Borrow.{Bor}
 use Rattle.std.specs.Str.Parse.{ParsesBool, ParsesUnsigned}
 use Rattle.clap.specs.Words.{App, FailsBy, HasKind, Kinds, ReadsOne, Row, Text, fault_of, first_of, first_value, is_simple, matches_of, one_of, one_text, rows_of}
@@ -80,6 +80,13 @@ fails_at_trace_line a words r = faults_at trace_line a words r is_free_trace
 pub text_said : (f : Found) (id : Text) (rows : List Row) (r : Option (Bor Text)) → rows_of f ≡ rows → option_map (λ s. s.now) r ≡ first_value f id
     → option_map (λ s. s.now) r ≡ first_of id rows
 text_said f id rows r same e = e ∙ first_value-rows f id ∙ ap (first_of id) same
+
+-- A text is in the row exactly if one was read.
+pub is_given : (f : Found) (id : Text) (r : Option (Bor Text)) → option_map (λ s. s.now) r ≡ first_value f id → is_some (first_of id (rows_of f)) ≡ is_some r
+is_given f id r e = ap is_some (sym (first_value-rows f id) ∙ sym e) ∙ mapped r where
+  mapped : (r : Option (Bor Text)) → is_some (option_map (λ s. s.now) r) ≡ is_some r
+  mapped None = refl
+  mapped (Some s) = refl
 
 -- A number that was read is the number in the row.
 pub number_said : {E : Type 0} (f : Found) (id : Text) (G : List ℕ → Result ℕ E → Type 0) (n : ℕ) → (one_text f id ≡ None → Some n ≡ None)

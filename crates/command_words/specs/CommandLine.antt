@@ -1,7 +1,10 @@
 -- The arguments of all the programs, which describe a session, the forms of arguments, and what is read of their matches. (Over
 -- clap's own definitions; the words: this project's own.)
 use Rattle.std.specs.Prelude.{◌≡◌, ◌≢◌, ◌≤◌, ◌⊎◌, ℕ, List, [], ◌∷◌, Bool, MatchBool, MatchOption, Option, Some, None, map, option_map, unwrap_or, codes, true}
+use Rattle.std.specs.Prelude.{if◌then◌else◌, get_or, is_some}
 use Rattle.std.specs.Borrow.{Bor}
+use Rattle.std.specs.List.{list_any}
+use Rattle.std.specs.Option.{option_or}
 use Rattle.std.specs.Str.Parse.{IsNumeral, digits_value, without_leading_plus}
 use Rattle.clap.specs.Words.{App, Row, Rule, Text, first_of, new_app, new_rule, one_of, with_rule}
 use Rattle.clap.specs.Simple.{on_top}
@@ -47,19 +50,20 @@ with_rules app (rule ∷ rules) = with_rules (with_rule app rule) rules
 abbrev pub positional_rules : List Rule
 positional_rules = record (as_path (new_rule (codes "PROGRAM"))) { required = true } ∷ new_rule (codes "TAIL") ∷ []
 
--- The folders that are read, and the script.
+-- The folders and the disks that are read, and the script.
 abbrev pub input_rules : List Rule
 input_rules =
     path_rule (codes "files") ∷ path_rule (codes "files-b") ∷ path_rule (codes "files-c") ∷ path_rule (codes "files-d")
+    ∷ path_rule (codes "disk") ∷ path_rule (codes "disk-b") ∷ path_rule (codes "disk-c") ∷ path_rule (codes "disk-d")
     ∷ path_rule (codes "console") ∷ []
 
 -- The script as typed text, which may be empty.
 abbrev pub typed_rule : Rule
 typed_rule = option_rule (codes "typed")
 
--- The limit of steps.
+-- The limit of steps, whose default depends on the disks.
 abbrev pub limit_rule : Rule
-limit_rule = number_rule (codes "limit") 0 4000000000 (codes "1000000")
+limit_rule = range_rule (codes "limit") 0 4000000000
 
 -- A command with the program, the tail, and what is read.
 abbrev pub with_input_rules : App → App
@@ -93,9 +97,26 @@ IsNumberIfAny rows id least most number =
 abbrev pub IsFlagOf : List Row → Text → Bool → Type 0
 IsFlagOf rows id flag = MatchBool flag (one_of id rows ≡ Some (codes "true")) (one_of id rows ≢ Some (codes "true"))
 
--- The matches have no program, or no limit that is in its range.
+-- A limit is given.
+abbrev pub has_limit : List Row → Bool
+has_limit rows = is_some (first_of (codes "limit") rows)
+
+-- The matches have no program, or a limit that is not in its range.
 abbrev pub LacksSessionWords : List Row → Type 0
-LacksSessionWords rows = (first_of (codes "PROGRAM") rows ≡ None) ⊎ HasNoNumberWithin rows (codes "limit") 0 4000000000
+LacksSessionWords rows =
+    (first_of (codes "PROGRAM") rows ≡ None) ⊎ ((has_limit rows ≡ true) × HasNoNumberWithin rows (codes "limit") 0 4000000000)
+
+-- The limit if none is given: a run on a disk is not to be cut off early.
+abbrev pub default_limit : List (Option (Bor Text)) → ℕ
+default_limit disk = if list_any is_some disk then 4000000000 else 1000000
+
+-- The limit that is given, or else the default.
+abbrev pub IsLimitOf : List Row → List (Option (Bor Text)) → ℕ → Type 0
+IsLimitOf rows disk limit = MatchBool (has_limit rows) (IsNumberOf rows (codes "limit") limit) (limit ≡ default_limit disk)
+
+-- The folder of each drive, A to D: its own, or else its disk.
+abbrev pub files_or_disks : List (Option (Bor Text)) → List (Option (Bor Text)) → List (Option (Bor Text))
+files_or_disks files disks = map (λ drive. option_or (get_or files drive None) (get_or disks drive None)) (0 ∷ 1 ∷ 2 ∷ 3 ∷ [])
 
 -- The first value of each argument, if it has one.
 abbrev pub texts_of : List Row → List Text → List (Option Text)
@@ -108,7 +129,9 @@ text_of = option_map (λ s. s.now)
 pub record AreSessionWordsOf (rows : List Row) (words : SessionWords) : Type 0 where
   pub program : text_of (Some words.program) ≡ first_of (codes "PROGRAM") rows
   pub tail : words.tail.now ≡ unwrap_or (first_of (codes "TAIL") rows) []
-  pub files : map text_of words.files ≡ texts_of rows (codes "files" ∷ codes "files-b" ∷ codes "files-c" ∷ codes "files-d" ∷ [])
+  pub files : words.files ≡ files_or_disks words.own words.disk
+  pub own : map text_of words.own ≡ texts_of rows (codes "files" ∷ codes "files-b" ∷ codes "files-c" ∷ codes "files-d" ∷ [])
+  pub disk : map text_of words.disk ≡ texts_of rows (codes "disk" ∷ codes "disk-b" ∷ codes "disk-c" ∷ codes "disk-d" ∷ [])
   pub console : text_of words.console ≡ first_of (codes "console") rows
   pub typed : text_of words.typed ≡ first_of (codes "typed") rows
-  pub limit : IsNumberOf rows (codes "limit") words.limit
+  pub limit : IsLimitOf rows words.disk words.limit

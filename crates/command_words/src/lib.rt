@@ -2,7 +2,7 @@
 //!
 //! - `words`: `read_words`, `read_dependency_words`, and the words that all programs share
 //! - `trace_words`: `read_trace_words`
-//! - `clashes`: two options of which only one may be given
+//! - `clashes`: two options of which only one may be given, and an option that another one needs
 //! - `options`, `trace_options`, `help`: the command lines as commands of `clap`; the texts of their help
 //! - `error_classes`: what an error of `clap` means for the program: information, a usage error, or out of memory
 #![tactic(auto)]

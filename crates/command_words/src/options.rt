@@ -1,8 +1,8 @@
 ghost use Rattle.std.specs.Prelude.{◌≡◌, false, codes, IfOk, map};
 ghost use Rattle.clap.specs.Words.{app_of, rule_of};
 ghost use Rattle.command_words.specs.CommandLine.{flag_rule, limit_rule, number_rule, option_rule, path_rule, plain_command};
-ghost use Rattle.command_words.specs.CommandLine.{positional_rules, typed_rule, with_default, with_input_rules, with_rules};
-ghost use Rattle.command_words.specs.RunLine.{run_line, run_number_rules};
+ghost use Rattle.command_words.specs.CommandLine.{positional_rules, range_rule, typed_rule, with_default, with_input_rules, with_rules};
+ghost use Rattle.command_words.specs.RunLine.{run_line, run_other_rules};
 ghost use Rattle.command_words.specs.DependencyLine.{dependency_line};
 
 use crate::help::{DEPENDENCY_ABOUT, DEPENDENCY_AFTER_HELP, RUN_ABOUT, RUN_AFTER_HELP, VERSION};
@@ -17,7 +17,7 @@ pub(crate) struct TextOption<'a> {
     pub help: &'a str,
 }
 
-/// The options for the folders of the host files and for the script.
+/// The options for the folders of the host files, for the disks and for the script.
 const INPUT_PATHS: &[TextOption<'_>] = &[
     TextOption {
         name: "files",
@@ -40,6 +40,26 @@ const INPUT_PATHS: &[TextOption<'_>] = &[
         help: "The same for drive D",
     },
     TextOption {
+        name: "disk",
+        value: "DIR",
+        help: "Directory that is drive A: read as by --files, and changed by a run of cpmrun that stops by WarmBoot",
+    },
+    TextOption {
+        name: "disk-b",
+        value: "DIR",
+        help: "The same for drive B",
+    },
+    TextOption {
+        name: "disk-c",
+        value: "DIR",
+        help: "The same for drive C",
+    },
+    TextOption {
+        name: "disk-d",
+        value: "DIR",
+        help: "The same for drive D",
+    },
+    TextOption {
         name: "console",
         value: "FILE",
         help: "The console input, at most 1,048,576 bytes [default: empty]",
@@ -53,7 +73,7 @@ const TYPED: TextOption<'_> = TextOption {
     help: "The console input as text with \\r, \\n, \\t, \\\\ and \\xHH; a carriage return is added if none ends it",
 };
 
-/// The options of `cpmrun` for the edit lines, for the folders of changed files, for the disks, and for the file of the rule for make.
+/// The options of `cpmrun` for the edit lines, for the folders of changed files, for the rule for make, and for the trace.
 const RUN_PATHS: &[TextOption<'_>] = &[
     TextOption {
         name: "edits",
@@ -81,29 +101,19 @@ const RUN_PATHS: &[TextOption<'_>] = &[
         help: "The same for drive D",
     },
     TextOption {
-        name: "disk",
-        value: "DIR",
-        help: "Directory that is drive A: read as by --files, and changed as the run changes it (only read with --edits)",
-    },
-    TextOption {
-        name: "disk-b",
-        value: "DIR",
-        help: "The same for drive B",
-    },
-    TextOption {
-        name: "disk-c",
-        value: "DIR",
-        help: "The same for drive C",
-    },
-    TextOption {
-        name: "disk-d",
-        value: "DIR",
-        help: "The same for drive D",
-    },
-    TextOption {
         name: "deps",
         value: "FILE",
         help: "File for a rule for make: what is written to DIRs, and what it depends on (not with --edits)",
+    },
+    TextOption {
+        name: "target",
+        value: "NAME",
+        help: "The target of the rule of --deps [default: the files that are written to DIRs]",
+    },
+    TextOption {
+        name: "trace",
+        value: "FILE",
+        help: "File for the calls of this run, as cpmtrace prints them (not with --edits)",
     },
 ];
 
@@ -172,6 +182,17 @@ fn typed_option<'a>(alloc: Global) -> Arg<'a>
     text_argument(alloc, &TYPED)
 }
 
+/// Returns the argument for an option whose value is a number of this range.
+pub(crate) fn range_argument<'a>(alloc: Global, name: &'a str, least: u64, most: u64) -> Arg<'a>
+    ensures rule { rule_of result ≡ range_rule name.entry.now least most }
+    ensures local { result.global ≡ false }
+{
+    Arg::new(alloc, name)
+        .long(name)
+        .value_name("N")
+        .value_parser(ValueParser::unsigned(least, most))
+}
+
 /// Returns the argument for an option whose value is a number, without a check of its value.
 fn number_argument<'a>(alloc: Global, name: &'a str, default: &'a str) -> Arg<'a>
     ensures rule { rule_of result ≡ with_default (option_rule name.entry.now) default.entry.now }
@@ -188,11 +209,10 @@ pub(crate) fn limit_option<'a>(alloc: Global) -> Arg<'a>
     ensures rule { rule_of result ≡ limit_rule }
     ensures local { result.global ≡ false }
 {
-    number_argument(alloc, "limit", "1000000")
-        .value_parser(value_parser!(u64).range(0..=4_000_000_000))
-        .help(
-            "The steps after which a run stops, 0 to 4,000,000,000; raise it if a run ends with `stop Limit`",
-        )
+    range_argument(alloc, "limit", 0, 4_000_000_000).help(
+        "The steps after which a run stops, 0 to 4,000,000,000; raise it if a run ends with `stop Limit` \
+         [default: 1000000; with a disk 4000000000]",
+    )
 }
 
 /// Returns the option for the number of steps from one checkpoint to the next.
@@ -215,11 +235,16 @@ fn slots_option<'a>(alloc: Global) -> Arg<'a>
         .help("The most checkpoints, 1 to 4,096")
 }
 
-/// Adds the options of `cpmrun` whose values are numbers to a command.
-fn with_run_numbers<'a>(alloc: Global, command: Command<'a>) -> Result<Command<'a>, AllocError>
-    ensures { IfOk result (λ c. app_of c ≡ with_rules (app_of command.entry) run_number_rules) }
+/// Adds the flag of `cpmrun`, and its options whose values are numbers, to a command.
+fn with_run_options<'a>(alloc: Global, command: Command<'a>) -> Result<Command<'a>, AllocError>
+    ensures { IfOk result (λ c. app_of c ≡ with_rules (app_of command.entry) run_other_rules) }
 {
     command
+        .arg(flag_argument(
+            alloc,
+            "partial",
+            "Change the disks whatever the stop, and not only after WarmBoot",
+        ))?
         .arg(limit_option(alloc))?
         .arg(spacing_option(alloc))?
         .arg(slots_option(alloc))
@@ -283,7 +308,7 @@ pub fn run_command<'a>(alloc: Global) -> Result<Command<'a>, AllocError>
     let command = plain_command(alloc, "cpmrun", RUN_ABOUT, RUN_AFTER_HELP);
     let command = with_inputs(alloc, command)?;
     let command = with_paths(alloc, command, RUN_PATHS)?;
-    with_run_numbers(alloc, command)
+    with_run_options(alloc, command)
 }
 
 /// Returns the command line of `cpmdeps`.

@@ -7,9 +7,9 @@ ghost use Rattle.command_words.specs.TraceLine.{filter_rules, text_filter_rules,
 
 use crate::help::{TRACE_ABOUT, TRACE_AFTER_HELP};
 use crate::options::{
-    TextOption, flag_argument, limit_option, plain_command, text_argument, with_inputs,
+    TextOption, flag_argument, limit_option, plain_command, range_argument, text_argument,
+    with_inputs,
 };
-use clap::builder::ValueParser;
 use clap::{Arg, Command};
 use std::alloc::{AllocError, Global};
 
@@ -40,17 +40,6 @@ const FILE: TextOption<'_> = TextOption {
     value: "NAME",
     help: "Only calls that name this file, such as b:names.txt; drive A without a letter",
 };
-
-/// Returns the argument for an option whose value is a number of this range.
-fn range_argument<'a>(alloc: Global, name: &'a str, least: u64, most: u64) -> Arg<'a>
-    ensures rule { rule_of result ≡ range_rule name.entry.now least most }
-    ensures local { result.global ≡ false }
-{
-    Arg::new(alloc, name)
-        .long(name)
-        .value_name("N")
-        .value_parser(ValueParser::unsigned(least, most))
-}
 
 /// Returns the option for the first step.
 fn from_option<'a>(alloc: Global) -> Arg<'a>

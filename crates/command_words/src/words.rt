@@ -1,6 +1,7 @@
-ghost use Rattle.std.specs.Prelude.{◌≤◌, IfOk, IfSome, IfNone, map, string_bytes};
+ghost use Rattle.std.specs.Prelude.{◌≡◌, ◌≤◌, IfOk, IfSome, IfNone, [], ◌∷◌, codes, map, string_bytes, true};
 ghost use Rattle.clap.specs.Words.{FailsBy, found_of, rows_of};
-ghost use Rattle.command_words.specs.CommandLine.{AreSessionWordsOf, HasNoNumberWithin, IsFlagOf, IsNumberOf, LacksSessionWords};
+ghost use Rattle.command_words.specs.CommandLine.{AreSessionWordsOf, HasNoNumberWithin, IsFlagOf, IsLimitOf, IsNumberOf, LacksSessionWords};
+ghost use Rattle.command_words.specs.CommandLine.{default_limit, files_or_disks, has_limit, text_of, texts_of};
 ghost use Rattle.command_words.specs.RunLine.{AreWordsOf, LacksWords, run_faults, run_matches};
 ghost use Rattle.command_words.specs.DependencyLine.{AreDependencyWordsOf, dependency_faults, dependency_matches};
 
@@ -15,13 +16,17 @@ pub struct SessionWords<'a> {
     pub program: &'a str,
     /// The command tail, empty by default.
     pub tail: &'a str,
-    /// The folder of the host files of each drive, A to D.
+    /// The folder of each drive, A to D, that the host files are read from: its own, or else its disk.
     pub files: [Option<&'a str>; 4],
+    /// The folder of the host files of each drive, A to D.
+    pub own: [Option<&'a str>; 4],
+    /// The folder of each drive, A to D, that is its disk.
+    pub disk: [Option<&'a str>; 4],
     /// The path of the script, if it has one.
     pub console: Option<&'a str>,
     /// The script as typed text. With neither a path nor a text, the script is empty.
     pub typed: Option<&'a str>,
-    /// The limit of steps, 0 to 4,000,000,000.
+    /// The limit of steps, 0 to 4,000,000,000: 1,000,000 by default, and 4,000,000,000 with a disk.
     pub limit: u64,
 }
 
@@ -38,16 +43,22 @@ pub struct Words<'a> {
     pub console: Option<&'a str>,
     /// The script as typed text. With neither a path nor a text, the script is empty.
     pub typed: Option<&'a str>,
-    /// The limit of steps, 0 to 4,000,000,000.
+    /// The limit of steps, 0 to 4,000,000,000: 1,000,000 by default, and 4,000,000,000 with a disk.
     pub limit: u64,
     /// The folder for the changed files of each drive, A to D.
     pub out: [Option<&'a str>; 4],
     /// The folder of each drive, A to D, that is its disk: it is read, and the changed files are written and removed there.
     pub disk: [Option<&'a str>; 4],
+    /// Whether the disks are changed whatever the stop, and not only if the run stops by `WarmBoot`.
+    pub partial: bool,
     /// The path of the edit lines, or `None` to run the session once.
     pub edits: Option<&'a str>,
     /// The path of the file that gets a rule for make, if one is to be written.
     pub deps: Option<&'a str>,
+    /// The target of this rule, or `None` for the files that are written.
+    pub target: Option<&'a str>,
+    /// The path of the file that gets the trace of the run, if it is to be written.
+    pub trace: Option<&'a str>,
     /// The number of steps from one checkpoint to the next, 1 to 1,000,000,000.
     pub spacing: u64,
     /// The largest number of checkpoints that are kept, 1 to 4,096.
@@ -55,27 +66,38 @@ pub struct Words<'a> {
 }
 
 impl<'a> Words<'a> {
-    ghost use Rattle.std.specs.Prelude.{◌≡◌};
     ghost use Rattle.command_words.specs.RunLine.{session_words};
 
-    /// Returns the words that describe the session. A drive without a folder of host files is read from its disk.
+    /// Returns the words that describe the session.
     pub fn session(&self) -> SessionWords<'a>
         ensures { result ≡ session_words self.now }
     {
         SessionWords {
             program: self.program,
             tail: self.tail,
-            files: [
-                self.files[0].or(self.disk[0]),
-                self.files[1].or(self.disk[1]),
-                self.files[2].or(self.disk[2]),
-                self.files[3].or(self.disk[3]),
-            ],
+            files: files_or_disks(&self.files, &self.disk),
+            own: self.files,
+            disk: self.disk,
             console: self.console,
             typed: self.typed,
             limit: self.limit,
         }
     }
+}
+
+/// Returns the folder of each drive: its own, or else its disk.
+fn files_or_disks<'a>(
+    own: &[Option<&'a str>; 4],
+    disk: &[Option<&'a str>; 4],
+) -> [Option<&'a str>; 4]
+    ensures { result ≡ files_or_disks own.now disk.now }
+{
+    [
+        own[0].or(disk[0]),
+        own[1].or(disk[1]),
+        own[2].or(disk[2]),
+        own[3].or(disk[3]),
+    ]
 }
 
 /// The words of the command line of `cpmdeps`. Paths are unchanged.
@@ -109,24 +131,61 @@ pub(crate) fn flag(matches: &ArgMatches<'_>, id: &str) -> bool
     matches.get_one::<bool>(id).unwrap_or(false)
 }
 
+/// Returns the texts of the options with these names, one for each drive, A to D.
+fn texts<'a>(matches: &ArgMatches<'a>, a: &str, b: &str, c: &str, d: &str) -> [Option<&'a str>; 4]
+    ensures { map text_of result ≡ texts_of (rows_of (found_of matches.now))
+        (a.now ∷ b.now ∷ c.now ∷ d.now ∷ []) }
+{
+    [
+        matches.get_str(a),
+        matches.get_str(b),
+        matches.get_str(c),
+        matches.get_str(d),
+    ]
+}
+
+/// Returns the limit of steps if none is given.
+fn default_limit(disk: &[Option<&str>; 4]) -> u64
+    ensures { result ≡ default_limit disk.now }
+{
+    let [a, b, c, d] = *disk;
+    if a.is_some() || b.is_some() || c.is_some() || d.is_some() {
+        return 4_000_000_000;
+    }
+    1_000_000
+}
+
+/// Returns the limit of steps, or `None` if it is out of its range.
+fn limit_of(matches: &ArgMatches<'_>, disk: &[Option<&str>; 4]) -> Option<u64>
+    ensures said { IfSome result (IsLimitOf (rows_of (found_of matches.now)) disk.now) }
+    ensures high { IfSome result (λ n. n ≤ 4000000000) }
+    ensures given { IfNone result (has_limit (rows_of (found_of matches.now)) ≡ true) }
+    ensures none { IfNone result
+        (HasNoNumberWithin (rows_of (found_of matches.now)) (codes "limit") 0 4000000000) }
+{
+    if matches.get_str("limit").is_none() {
+        return Some(default_limit(disk));
+    }
+    number(matches, "limit", 0, 4_000_000_000)
+}
+
 /// Returns the words that describe a session, or `None` if the program is missing or the limit is out of its range.
 pub(crate) fn session_words_of<'a>(matches: &ArgMatches<'a>) -> Option<SessionWords<'a>>
     ensures says { IfSome result (AreSessionWordsOf (rows_of (found_of matches.now))) }
     ensures limit { IfSome result (λ w. w.limit ≤ 4000000000) }
     ensures none { IfNone result (LacksSessionWords (rows_of (found_of matches.now))) }
 {
+    let own = texts(matches, "files", "files-b", "files-c", "files-d");
+    let disk = texts(matches, "disk", "disk-b", "disk-c", "disk-d");
     Some(SessionWords {
         program: matches.get_str("PROGRAM")?,
         tail: matches.get_str("TAIL").unwrap_or(""),
-        files: [
-            matches.get_str("files"),
-            matches.get_str("files-b"),
-            matches.get_str("files-c"),
-            matches.get_str("files-d"),
-        ],
+        files: files_or_disks(&own, &disk),
+        own,
+        disk,
         console: matches.get_str("console"),
         typed: matches.get_str("typed"),
-        limit: number(matches, "limit", 0, 4_000_000_000)?,
+        limit: limit_of(matches, &disk)?,
     })
 }
 
@@ -142,24 +201,17 @@ fn words_of<'a>(matches: &ArgMatches<'a>) -> Option<Words<'a>>
     Some(Words {
         program: session.program,
         tail: session.tail,
-        files: session.files,
+        files: session.own,
         console: session.console,
         typed: session.typed,
         limit: session.limit,
-        out: [
-            matches.get_str("out"),
-            matches.get_str("out-b"),
-            matches.get_str("out-c"),
-            matches.get_str("out-d"),
-        ],
-        disk: [
-            matches.get_str("disk"),
-            matches.get_str("disk-b"),
-            matches.get_str("disk-c"),
-            matches.get_str("disk-d"),
-        ],
+        out: texts(matches, "out", "out-b", "out-c", "out-d"),
+        disk: session.disk,
+        partial: flag(matches, "partial"),
         edits: matches.get_str("edits"),
         deps: matches.get_str("deps"),
+        target: matches.get_str("target"),
+        trace: matches.get_str("trace"),
         spacing: number(matches, "spacing", 1, 1_000_000_000)?,
         slots: number(matches, "slots", 1, 4096)? as usize,
     })

@@ -1,3 +1,7 @@
+mod Carrying
 mod Choosing
-mod Writing
+mod Finishing
+mod Lists
+mod Targets
 mod Unmetered
+mod Writing

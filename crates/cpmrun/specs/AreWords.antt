@@ -7,7 +7,7 @@ use Rattle.command_words.specs.declared.error_classes.ErrorClass.{ErrorClass}
 use Rattle.command_words.specs.declared.error_classes.ErrorClass.TheVariants.{UsageError}
 use Rattle.command_words.specs.declared.words.Words.{Words}
 
--- The words have two options that exclude each other.
+-- The words have two options that exclude each other, or one that lacks another.
 pub record Clash (words : List (List ℕ)) : Type 0 where
   pub w : Words
   pub says : AreWordsOf (run_matches words) w
@@ -22,6 +22,6 @@ pub record AreWords (words : List (List ℕ)) (w : Words) : Type 0 where
   pub slots : (1 ≤ w.slots) × (w.slots ≤ 4096)
   pub alone : run_clashes w ≡ false
 
--- The words are a usage error: for clap, or since they have two options that exclude each other.
+-- The words are a usage error: for clap, or since they have two options that exclude each other, or one that lacks another.
 abbrev pub HasFaultClass : List (List ℕ) → ErrorClass → Type 0
 HasFaultClass words outcome = HasErrorClass (run_faults words) outcome ⊎ ((outcome ≡ UsageError) × Clash words)

@@ -1,4 +1,5 @@
 pub mod AreWords
+pub mod Reports
+pub mod RunEnds
 pub mod Ends
 pub mod MeteredEnds
-pub mod RuleEnds

@@ -1,6 +1,5 @@
 -- How the program ends, and how many steps its runs executed. (This project's own.)
 use Rattle.std.specs.Prelude.{◌≡◌, ℕ, List, Option, IfSome}
-use Rattle.std.specs.Borrow.{Bor}
 use Rattle.command_words.specs.declared.words.Words.{Words}
 use Rattle.folders.specs.FileSystem.{text_at}
 use Rattle.replay.specs.RunnerView.{RunnerView, with_no_checkpoint}
@@ -29,6 +28,6 @@ pub record WritesReplayBy (source : Option (List ℕ)) (first : RunnerView) (bef
   pub effects : Effects first 0 (lines_of bytes) last steps
 
 -- The program ends without an error, and a replay executes `steps` steps, by a runner with the options of the words.
-abbrev pub MeteredEnds : (Words → Bor (List ℕ) → ℕ → World → World → Type 0) → List (List ℕ) → ℕ → World → World → ℕ → Type 0
-MeteredEnds WithRule words status before after steps =
-    EndsBy (λ w s path. WritesReplayBy (text_at before.files.bytes path) (with_no_checkpoint s (options_of w)) before.out after.out steps) WithRule words status before after
+abbrev pub MeteredEnds : List (List ℕ) → ℕ → World → World → ℕ → Type 0
+MeteredEnds words status before after steps =
+    EndsBy (λ w s path. WritesReplayBy (text_at before.files.bytes path) (with_no_checkpoint s (options_of w)) before.out after.out steps) words status before after

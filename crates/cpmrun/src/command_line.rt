@@ -7,20 +7,18 @@ ghost use Rattle.replay.specs.RunnerView.{with_no_checkpoint};
 ghost use Rattle.folders.specs.Failures.{KeepsFiles, ReportsPaths};
 ghost use Rattle.requests.specs.FaultReports.{file_paths};
 ghost use Rattle.cpmrun.specs.Ends.{BreaksOffWith, BreaksReplay, EndsWithoutFault, EndsByFault, FaultOf};
-ghost use Rattle.cpmrun.specs.RuleEnds.{BreaksWithRule, RunsWithRule};
 ghost use Rattle.cpmrun.specs.MeteredEnds.{MeteredEnds, WritesReplayBy, options_of};
 ghost use Rattle.one_run.specs.World.{world};
 ghost use Rattle.streams.specs.Streams.{Output};
 ghost use Rattle.folders.specs.FileSystem.{text_at};
 
 use crate::request::read_request;
-use crate::rule_run::run_with_rule;
+use crate::word_run::run_words;
 use command_words::Words;
 use edit_lines::{Ending, Reader, ReplayFault, Writer, replay};
-use folders::{FileSystem, Places};
+use folders::FileSystem;
 use loading::{load, open};
 use machine::{Meter, Session};
-use one_run::run_once;
 use replay::{Options, Runner};
 use requests::{Fault, Request, Tool, print_information, report_fault};
 use std::alloc::Global;
@@ -100,10 +98,10 @@ fn run<'a, S: FileSystem, O: Writer, E: Writer>(
     err: &mut E,
 ) -> Result<u8, Fault<'a>>
     requires { meter.old ≡ 0 }
-    ensures done { IfOk result (λ status. MeteredEnds RunsWithRule (map string_bytes words.entry.now) status
+    ensures done { IfOk result (λ status. MeteredEnds (map string_bytes words.entry.now) status
         (world (S.files system.old) (O.output out.old) (E.output err.old))
         (world (S.files system.new) (O.output out.new) (E.output err.new)) meter.new) }
-    ensures fault { IfErr result (λ fault. (old new : Output) → FaultOf BreaksWithRule
+    ensures fault { IfErr result (λ fault. (old new : Output) → FaultOf
         (map string_bytes words.entry.now) (world (S.files system.old) (O.output out.old) old)
         (world (S.files system.new) (O.output out.new) new) fault) }
     ensures unreported { OnErr result (E.output err.new ≡ E.output err.old) }
@@ -116,14 +114,10 @@ fn run<'a, S: FileSystem, O: Writer, E: Writer>(
             return Ok(0);
         }
     };
-    if let Some(path) = words.deps {
-        return run_with_rule(system, &words, path, out, err);
-    }
-    let session = load(system, &words.session())?;
     let Some(path) = words.edits else {
-        let places = Places::find(system, &words.out, &words.disk)?;
-        return Ok(run_once(system, &places, session, out, err)?);
+        return run_words(system, &words, out, err);
     };
+    let session = load(system, &words.session())?.session;
     replay_file(system, path, session, options(&words), meter, out)?;
     Ok(0)
 }
@@ -139,9 +133,9 @@ pub fn metered_command<S: FileSystem, O: Writer, E: Writer>(
     requires { meter.old ≡ 0 }
     ensures ends { let before = world (S.files system.old) (O.output out.old) (E.output err.old) in
         let after = world (S.files system.new) (O.output out.new) (E.output err.new) in
-        MeteredEnds RunsWithRule (map string_bytes words.now) result before after meter.new
-        ⊎ EndsByFault BreaksWithRule (map string_bytes words.now) result before after }
-    ensures done { result ≡ 0 → MeteredEnds RunsWithRule (map string_bytes words.now) result
+        MeteredEnds (map string_bytes words.now) result before after meter.new
+        ⊎ EndsByFault (map string_bytes words.now) result before after }
+    ensures done { result ≡ 0 → MeteredEnds (map string_bytes words.now) result
         (world (S.files system.old) (O.output out.old) (E.output err.old))
         (world (S.files system.new) (O.output out.new) (E.output err.new)) meter.new }
 {
@@ -162,9 +156,9 @@ pub fn command<S: FileSystem, O: Writer, E: Writer>(
 ) -> u8
     ensures ends { let before = world (S.files system.old) (O.output out.old) (E.output err.old) in
         let after = world (S.files system.new) (O.output out.new) (E.output err.new) in
-        EndsWithoutFault RunsWithRule (map string_bytes words.now) result before after
-        ⊎ EndsByFault BreaksWithRule (map string_bytes words.now) result before after }
-    ensures done { result ≡ 0 → EndsWithoutFault RunsWithRule (map string_bytes words.now) result
+        EndsWithoutFault (map string_bytes words.now) result before after
+        ⊎ EndsByFault (map string_bytes words.now) result before after }
+    ensures done { result ≡ 0 → EndsWithoutFault (map string_bytes words.now) result
         (world (S.files system.old) (O.output out.old) (E.output err.old))
         (world (S.files system.new) (O.output out.new) (E.output err.new)) }
 {

@@ -1,7 +1,7 @@
 //! The program except its `main`: the words of its command line, one run or a replay of edit lines, and its errors.
 //!
 //! - `request`: the request in the words of the command line
-//! - `rule_run`: one run, after which a rule for make is written
+//! - `word_run`, `reports`: one run of the session of the words; what it reports into files
 //! - `command_line`: the command
 //!
 //! `command` takes a `FileSystem` instead of the runtime, so that its contract can name the files; `main` passes `SystemFiles`. What
@@ -9,8 +9,9 @@
 #![tactic(auto)]
 
 mod command_line;
+mod reports;
 mod request;
-mod rule_run;
+mod word_run;
 
 pub use command_line::{command, metered_command};
 pub use command_words::{Words, read_words};

@@ -1,10 +1,12 @@
 -- The ways in which `cpmdeps` ends. (This project's profile.)
-use Rattle.std.specs.Prelude.{◌≡◌, ℕ, ◌⊎◌, false, IfSome, List, [], MatchOption}
+use Rattle.std.specs.Prelude.{◌≡◌, ℕ, ◌⊎◌, false, IfSome, List, [], MatchOption, Option}
 use Rattle.command_words.specs.DependencyLine.{dependency_faults}
 use Rattle.command_words.specs.ErrorClass.{HasErrorClass}
 use Rattle.command_words.specs.declared.error_classes.ErrorClass.{ErrorClass}
 use Rattle.command_words.specs.declared.error_classes.ErrorClass.TheVariants.{Information, UsageError}
 use Rattle.command_words.specs.declared.words.DependencyWords.{DependencyWords}
+use Rattle.folders.specs.DriveFolders.{AreListings}
+use Rattle.folders.specs.declared.listing.Listing.{Listing}
 use Rattle.loading.specs.Loading.{IsLoadedFrom}
 use Rattle.machine.specs.Inputs.{Session}
 use Rattle.make_rules.specs.RefusedPaths.{FailsPaths, refuses_rule}
@@ -17,7 +19,7 @@ use Rattle.requests.specs.RuleFaults.{of_rule}
 use Rattle.requests.specs.declared.fault.Fault.{Fault}
 use Rattle.requests.specs.declared.tool.Tool.TheVariants.{Cpmdeps}
 use Rattle.dependency_command.specs.AreDependencyWords.{AreDependencyWords, Clash}
-use Rattle.dependency_command.specs.Answers.{BreaksAnswer, HasNoRule, IsAnswer, ReportsAnswer, WritesAnswer}
+use Rattle.dependency_command.specs.Answers.{BreaksAnswer, IsAnswer, ReportsAnswer, WritesAnswer}
 
 -- A rule for make is asked for, and it can have the paths; or none is asked for.
 abbrev pub AllowsPaths : DependencyWords → Type 0
@@ -34,7 +36,9 @@ pub record AnswersWords (words : List (List ℕ)) (before after : World) : Type 
   pub allowed : AllowsPaths w
   pub s : Session
   pub of : IsLoadedFrom before.files w.session s
-  pub written : WritesAnswer (IsAnswer w before.files s) before.out after.out
+  pub listings : List (Option Listing)
+  pub listed : AreListings before.files w.session.files listings
+  pub written : WritesAnswer (IsAnswer w listings s) before.out after.out
   pub reported : ReportsAnswer w s before.err after.err
 
 -- Help or the version was written.
@@ -67,7 +71,8 @@ FaultOf words before after fault =
     ⊎ ((w : DependencyWords) × AreDependencyWords words w × (RefusesRule w before after fault
     ⊎ (AllowsPaths w × (FailsToLoadSession w.session before after fault
     ⊎ ((s : Session) × IsLoadedFrom before.files w.session s
-    × BreaksAnswer (IsAnswer w before.files s) (HasNoRule w before.files s) before.out after.out fault)))))
+    × ((listings : List (Option Listing)) × AreListings before.files w.session.files listings
+    × BreaksAnswer (IsAnswer w listings s) before.out after.out fault))))))
 
 -- An error of these words occurred and was reported.
 abbrev pub EndsByFault : List (List ℕ) → ℕ → World → World → Type 0

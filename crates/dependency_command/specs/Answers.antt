@@ -1,5 +1,5 @@
 -- What `cpmdeps` writes about the run of a session. (This project's profile.)
-use Rattle.std.specs.Prelude.{◌≡◌, ℕ, [], ◌∷◌, ◌⊎◌, if◌then◌else◌, List, MatchOption}
+use Rattle.std.specs.Prelude.{◌≡◌, ℕ, [], ◌∷◌, ◌⊎◌, if◌then◌else◌, List, MatchOption, Option}
 use Rattle.command_words.specs.declared.words.DependencyWords.{DependencyWords}
 use Rattle.dependencies.specs.Dependencies.{AreDependencies}
 use Rattle.dependencies.specs.declared.rows.Joining.{Joining}
@@ -7,13 +7,11 @@ use Rattle.dependencies.specs.declared.rows.Joining.TheVariants.{Joined, ByStep}
 use Rattle.dependency_lines.specs.Listing.{listing}
 use Rattle.report_lines.specs.FirstLines.{stop_line}
 use Rattle.first_looks.specs.FirstLooks.{FirstLooksView}
-use Rattle.folders.specs.FileSystem.{StoredFiles}
+use Rattle.folders.specs.declared.listing.Listing.{Listing}
 use Rattle.machine.specs.Cause.{Cause}
 use Rattle.machine.specs.Inputs.{Session}
-use Rattle.make_rules.specs.RunRules.{BreaksRule, IsRule}
-use Rattle.make_rules.specs.declared.fault.RuleFault.{RuleFault}
+use Rattle.make_rules.specs.RunRules.{IsRule}
 use Rattle.streams.specs.Streams.{Output, WritesOrFails, WritesPart, WritesWhole}
-use Rattle.requests.specs.RuleFaults.{of_rule}
 use Rattle.requests.specs.declared.fault.Fault.{Fault}
 use Rattle.requests.specs.declared.fault.Fault.TheVariants.{CannotWrite, OutOfMemory}
 
@@ -29,13 +27,10 @@ pub record IsListing (joining : Joining) (s : Session) (text : List ℕ) : Type 
   pub are : AreDependencies s looks steps cause
   pub is : text ≡ listing joining s looks cause
 
--- The text is the one that the words ask for, with these files.
-abbrev pub IsAnswer : DependencyWords → StoredFiles → Session → List ℕ → Type 0
-IsAnswer w files s text = MatchOption w.target (IsListing (rows_of w) s text) (λ target. IsRule w.session (target.now ∷ []) files s text)
-
--- The words ask for a rule, and there is none.
-abbrev pub HasNoRule : DependencyWords → StoredFiles → Session → RuleFault → Type 0
-HasNoRule w files s f = MatchOption w.target ⊥ (λ target. BreaksRule w.session (target.now ∷ []) files s f)
+-- The text is the one that the words ask for, with these names in the folders.
+abbrev pub IsAnswer : DependencyWords → List (Option Listing) → Session → List ℕ → Type 0
+IsAnswer w listings s text =
+    MatchOption w.target (IsListing (rows_of w) s text) (λ target. IsRule w.session (target.now ∷ []) listings s text)
 
 -- Such a text was written.
 abbrev pub WritesAnswer : (List ℕ → Type 0) → Output → Output → Type 0
@@ -53,9 +48,7 @@ pub record ReportsStop (s : Session) (before after : Output) : Type 0 where
 abbrev pub ReportsAnswer : DependencyWords → Session → Output → Output → Type 0
 ReportsAnswer w s before after = MatchOption w.target (after ≡ before) (λ _. ReportsStop s before after)
 
--- What was written before an error: a prefix of the text if writing it failed, and else nothing, since there is no rule or an allocation
--- failed.
-abbrev pub BreaksAnswer : (List ℕ → Type 0) → (RuleFault → Type 0) → Output → Output → Fault → Type 0
-BreaksAnswer Is HasNone before after fault =
-    ((fault ≡ CannotWrite) × ((text : List ℕ) × Is text × WritesPart before after text))
-    ⊎ (((fault ≡ OutOfMemory) ⊎ ((f : RuleFault) × (fault ≡ of_rule f) × HasNone f)) × (after ≡ before))
+-- What was written before an error: a prefix of the text if writing it failed, and nothing if an allocation failed.
+abbrev pub BreaksAnswer : (List ℕ → Type 0) → Output → Output → Fault → Type 0
+BreaksAnswer Is before after fault =
+    ((fault ≡ CannotWrite) × ((text : List ℕ) × Is text × WritesPart before after text)) ⊎ ((fault ≡ OutOfMemory) × (after ≡ before))

@@ -1,15 +1,15 @@
 // The whole program except its `main`.
 
-ghost use Rattle.std.specs.Prelude.{◌≡◌, ◌⊎◌, ◌∷◌, [], IfErr, IfOk, OnErr, OnOk, map, string_bytes};
+ghost use Rattle.std.specs.Prelude.{◌≡◌, ◌⊎◌, ◌∷◌, [], IfErr, IfOk, OnErr, OnOk, false, map, string_bytes};
 ghost use Rattle.folders.specs.Failures.{KeepsFiles};
 ghost use Rattle.one_run.specs.World.{world};
 ghost use Rattle.dependencies.specs.Dependencies.{AreDependencies};
 ghost use Rattle.report_lines.specs.FirstLines.{stop_line};
 ghost use Rattle.streams.specs.Streams.{Output, WritesOrFails};
 ghost use Rattle.requests.specs.FaultReports.{file_paths};
-ghost use Rattle.make_rules.specs.Faults.{rule_paths};
-ghost use Rattle.make_rules.specs.RunRules.{BreaksRule, IsRule};
-ghost use Rattle.dependency_command.specs.Answers.{BreaksAnswer, HasNoRule, IsAnswer, IsListing};
+ghost use Rattle.make_rules.specs.RefusedPaths.{refuses_rule};
+ghost use Rattle.make_rules.specs.RunRules.{IsRule};
+ghost use Rattle.dependency_command.specs.Answers.{BreaksAnswer, IsAnswer, IsListing};
 ghost use Rattle.dependency_command.specs.Answers.{ReportsAnswer, ReportsStop, WritesAnswer, rows_of};
 ghost use Rattle.dependency_command.specs.AnswerEnds.{AllowsPaths, EndsByFault, EndsWithAnswer, FaultOf, RefusesPaths};
 
@@ -17,8 +17,8 @@ use crate::request::read_request;
 use command_words::{DependencyWords, SessionWords};
 use dependencies::{Dependencies, Joining, run_noting_looks};
 use dependency_lines::write_dependencies;
-use folders::FileSystem;
-use loading::load;
+use folders::{FileSystem, Listing};
+use loading::{Loaded, load};
 use machine::{Cause, Session, WholeRun};
 use make_rules::{RuleFault, check_paths, rule_of_run};
 use report_lines::stop_line;
@@ -47,7 +47,7 @@ fn write_listing<'a, O: Writer>(
     ensures done { OnOk result
         (WritesAnswer (IsListing joining session.now) (O.output out.old) (O.output out.new)) }
     ensures fault { IfErr result
-        (BreaksAnswer (IsListing joining session.now) (λ f. ⊥) (O.output out.old) (O.output out.new)) }
+        (BreaksAnswer (IsListing joining session.now) (O.output out.old) (O.output out.new)) }
 {
     let Ok(dependencies) = Dependencies::of_run(alloc, session) else {
         return Err(Fault::OutOfMemory);
@@ -68,47 +68,46 @@ fn one_path(alloc: Global, path: &str) -> Result<Vec<String>, AllocError>
 }
 
 /// Returns the rule for make with this target and the files on which the run of a session depends.
-fn rule_for<S: FileSystem>(
-    system: &mut S,
+fn rule_for(
+    alloc: Global,
     target: &str,
     words: &SessionWords<'_>,
+    listings: &[Option<Listing>; 4],
     run: &WholeRun<'_>,
-) -> Result<Vec<u8>, RuleFault>
-    requires { AreDependencies run.now.session.now run.now.looks run.now.steps run.now.cause }
-    ensures rule { IfOk result (λ text.
-        IsRule words.now (target.now ∷ []) (S.files system.old) run.now.session.now text.items) }
-    ensures fault { IfErr result
-        (BreaksRule words.now (target.now ∷ []) (S.files system.old) run.now.session.now) }
-    ensures unchanged { KeepsFiles rule_paths result (S.files system.old) (S.files system.new) }
+) -> Result<Vec<u8>, AllocError>
+    requires words { refuses_rule words.now target [] ≡ false }
+    requires run { AreDependencies run.now.session.now run.now.looks run.now.steps run.now.cause }
+    ensures { IfOk result (λ text.
+        IsRule words.now (target.now ∷ []) listings.now run.now.session.now text.items) }
 {
-    let targets = one_path(system.alloc(), target)?;
-    rule_of_run(system, targets.as_slice(), words, run)
+    let targets = one_path(alloc, target)?;
+    rule_of_run(alloc, targets.as_slice(), words, listings, run)
 }
 
 /// Writes the rule for make with the files on which the run of a session depends, and reports its stop. A failure of the writer of
 /// the report is ignored.
-fn write_rule<'a, S: FileSystem, O: Writer, E: Writer>(
-    system: &mut S,
-    session: &Session,
+fn write_rule<'a, O: Writer, E: Writer>(
+    alloc: Global,
+    loaded: &Loaded,
     words: &SessionWords<'_>,
     target: &str,
     out: &mut O,
     err: &mut E,
 ) -> Result<(), Fault<'a>>
-    ensures done { let files = S.files system.old in OnOk result
-        (WritesAnswer (IsRule words.now (target.now ∷ []) files session.now)
+    requires { refuses_rule words.now target [] ≡ false }
+    ensures done { OnOk result
+        (WritesAnswer (IsRule words.now (target.now ∷ []) loaded.now.listings loaded.now.session)
         (O.output out.old) (O.output out.new)) }
-    ensures reported { OnOk result (ReportsStop session.now (E.output err.old) (E.output err.new)) }
-    ensures fault { let files = S.files system.old in IfErr result
-        (BreaksAnswer (IsRule words.now (target.now ∷ []) files session.now)
-        (BreaksRule words.now (target.now ∷ []) files session.now) (O.output out.old) (O.output out.new)) }
+    ensures reported { OnOk result (ReportsStop loaded.now.session (E.output err.old) (E.output err.new)) }
+    ensures fault { IfErr result
+        (BreaksAnswer (IsRule words.now (target.now ∷ []) loaded.now.listings loaded.now.session)
+        (O.output out.old) (O.output out.new)) }
     ensures unreported { OnErr result (err.new ≡ err.old) }
-    ensures unchanged { KeepsFiles file_paths result (S.files system.old) (S.files system.new) }
 {
-    let Ok(run) = run_noting_looks(system.alloc(), session) else {
+    let Ok(run) = run_noting_looks(alloc, &loaded.session) else {
         return Err(Fault::OutOfMemory);
     };
-    let text = rule_for(system, target, words, &run)?;
+    let text = rule_for(alloc, target, words, &loaded.listings, &run)?;
     match write_all(out, text.as_slice()) {
         Ok(()) => {
             report_stop(err, run.cause);
@@ -126,26 +125,27 @@ fn report_stop<E: Writer>(err: &mut E, cause: Cause)
 }
 
 /// Runs a session, and writes what the run asked for as the words ask for it.
-fn write_answer<'a, S: FileSystem, O: Writer, E: Writer>(
-    system: &mut S,
-    session: &Session,
+fn write_answer<'a, O: Writer, E: Writer>(
+    alloc: Global,
+    loaded: &Loaded,
     words: &DependencyWords<'_>,
     out: &mut O,
     err: &mut E,
 ) -> Result<(), Fault<'a>>
-    ensures done { OnOk result (WritesAnswer (IsAnswer words.now (S.files system.old) session.now)
+    requires { AllowsPaths words.now }
+    ensures done { OnOk result
+        (WritesAnswer (IsAnswer words.now loaded.now.listings loaded.now.session)
         (O.output out.old) (O.output out.new)) }
     ensures reported { OnOk result
-        (ReportsAnswer words.now session.now (E.output err.old) (E.output err.new)) }
-    ensures fault { let files = S.files system.old in IfErr result
-        (BreaksAnswer (IsAnswer words.now files session.now) (HasNoRule words.now files session.now)
+        (ReportsAnswer words.now loaded.now.session (E.output err.old) (E.output err.new)) }
+    ensures fault { IfErr result
+        (BreaksAnswer (IsAnswer words.now loaded.now.listings loaded.now.session)
         (O.output out.old) (O.output out.new)) }
     ensures unreported { OnErr result (err.new ≡ err.old) }
-    ensures unchanged { KeepsFiles file_paths result (S.files system.old) (S.files system.new) }
 {
     match words.target {
-        Some(target) => write_rule(system, session, &words.session, target, out, err),
-        None => write_listing(system.alloc(), session, joining(words), out),
+        Some(target) => write_rule(alloc, loaded, &words.session, target, out, err),
+        None => write_listing(alloc, &loaded.session, joining(words), out),
     }
 }
 
@@ -181,8 +181,8 @@ fn run<'a, S: FileSystem, O: Writer, E: Writer>(
         Request::Information(text) => return print_information(text.as_str(), out),
     };
     check_words(system.alloc(), &words)?;
-    let session = load(system, &words.session)?;
-    write_answer(system, &session, &words, out, err)
+    let loaded = load(system, &words.session)?;
+    write_answer(system.alloc(), &loaded, &words, out, err)
 }
 
 /// Prints what the run of a session depends on, for the words after the program's name and over the files of a file system, and

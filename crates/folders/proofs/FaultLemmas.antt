@@ -18,11 +18,11 @@ use Rattle.folders.specs.FolderNames.{key_in, path_text}
 use Rattle.folders.specs.Faults.{FailsBy, IsReadFault}
 use Rattle.folders.specs.FileSystem.{Path, FileBytes, ReadsFile, StoredFiles}
 use Rattle.folders.specs.Listings.{ListsFolder}
-use Rattle.folders.specs.Folders.{AreFromFolder, FailsFile, FailsFolder, FailsListed, FailsListing, FailsName, IsEntryFault, IsNextFile, IsReadAs, RefusesAs, folder_of}
+use Rattle.folders.specs.Folders.{AreFromFolder, FailsFile, FailsFolder, FailsListed, FailsListing, FailsName, IsEntryFault, IsNextFile, IsReadAs, ReadBelow, RefusesAs, folder_of}
 use Rattle.folders.specs.declared.fault.Failure.{Failure}
 use Rattle.folders.specs.declared.fault.Failure.TheVariants.{AtFault, OutOfMemory}
 use Rattle.folders.proofs.ListingLemmas.{Map}
-use Rattle.folders.proofs.ReadLemmas.{ReadBelow, SetUpTo, WantedOf, named_of, still_of}
+use Rattle.folders.proofs.ReadLemmas.{SetUpTo, WantedOf, named_of, still_of}
 
 -- A file that was read is refused, or an allocation failed.
 pub set_fails : (files : Option FileBytes) (path : Path) (host : Host) (key : Key) (bytes : List ℕ) (r : Result (Unit {0}) Failure) → ReadsFile files path (FILE_LIMIT + 1) bytes

@@ -19,7 +19,23 @@ Map X = FinMap (slice_cmp nat_cmp) X
 pub none_there : (X : Type 0) (q : Key) → contains_key {X = X} {R = slice_cmp nat_cmp} empty q ≡ true → ⊥
 none_there X q h = let e : is_some (get {X = X} {R = slice_cmp nat_cmp} empty q) ≡ false = ap is_some (get-empty (slice_cmp nat_cmp) q) in cc
 
+pub none_named : {X Y P : Type 0} (f : X → Y) (q : Key) (v : Y) → option_map f (get {X = X} {R = slice_cmp nat_cmp} empty q) ≡ Some v → P
+none_named {X = X} f q v h = let e : option_map f (get {X = X} {R = slice_cmp nat_cmp} empty q) ≡ None = ap (option_map f) (get-empty (slice_cmp nat_cmp) q) in cc
+
 module _ {X : Type 0} where
+  named_one : {Y : Type 0} (f : X → Y) (P : Key → Y → Type 0) (key k : Key) (b : Bool) (v : X) (w : Y) (r : Option X) → (b ≡ true → k ≡ key) → P key (f v) → (option_map f r ≡ Some w → P k w)
+      → option_map f (cond b (Some v) r) ≡ Some w → P k w
+  named_one f P key k true v w r same here rest h = let e : f v ≡ w = cc in subst (P k) e (subst (λ q. P q (f v)) (sym (same refl)) here)
+  named_one f P key k false v w r same here rest h = rest h
+
+  -- What holds for each key and its value still holds, whether such a key was added or not.
+  pub put_named : {E Y : Type 0} (f : X → Y) (P : Key → Y → Type 0) (m n : Map X) (key : Key) (v : X) (r : Result (Unit {0}) E) → OnOk r (n ≡ insert m key v) → OnErr r (n ≡ m)
+      → P key (f v) → ((k : Key) (w : Y) → option_map f (get m k) ≡ Some w → P k w) → (k : Key) (w : Y) → option_map f (get n k) ≡ Some w → P k w
+  put_named f P m n key v (Ok x) ok err here rest k w h =
+      named_one f P key k (eq_by_cmp (slice_cmp nat_cmp) k key) v w (get m k) (key_of same_key k key) here (rest k w)
+      (ap (option_map f) (sym (get-insert nat_list_cmp_total m key v k) ∙ ap (λ l. get l k) (sym ok)) ∙ h)
+  put_named f P m n key v (Err x) ok err here rest k w h = rest k w (ap (λ l. option_map f (get l k)) (sym err) ∙ h)
+
   put_one : (P : Key → Type 0) (key k : Key) (b : Bool) (v : X) (r : Option X) → (b ≡ true → k ≡ key) → P key → (is_some r ≡ true → P k)
       → is_some (cond b (Some v) r) ≡ true → P k
   put_one P key k true v r same here rest h = subst P (sym (same refl)) here

@@ -1,5 +1,5 @@
 -- What is read of a file, and files that are read one after the other.
-use Rattle.std.proofs.Common.{◌≡◌, ◌≢◌, ℕ, zero, suc, ◌+◌, ◌<◌, ◌≤◌, List, length, take, Bool, true, false, is_some, Option, Some, None, IfSome, ◌⊎◌, inl, inr, refl, sym, ap, subst, ◌∙◌, slice_index, get_or, arith}
+use Rattle.std.proofs.Common.{◌≡◌, ◌≢◌, ℕ, ◌+◌, ◌<◌, ◌≤◌, List, length, take, Bool, true, false, is_some, Option, Some, None, IfSome, ◌⊎◌, inl, inr, refl, sym, ap, subst, ◌∙◌, slice_index, arith}
 use Rattle.std.specs.Prelude.{String, string_bytes}
 use Rattle.std.specs.List.{Contains}
 use Rattle.std.proofs.lemmas.List.{get_or_past}
@@ -13,14 +13,16 @@ use Rattle.std.specs.FinMap.{get, insert, empty, contains_key}
 use Rattle.keymaps.specs.Order.{is_above}
 use Rattle.keymaps.proofs.Views.{same_key, get_here}
 use Rattle.filenames.specs.Names.{Key}
-use Rattle.filenames.specs.Drives.{drives, drive_number}
-use Rattle.filenames.specs.declared.drive.Drive.TheVariants.{A}
 use Rattle.hostfiles.specs.Hosts.{Host, Record, records_in}
 use Rattle.hostfiles.specs.declared.host.TheConstants.{FILE_LIMIT}
 use Rattle.folders.specs.FolderNames.{path_text}
 use Rattle.folders.specs.FileSystem.{Path, FileBytes, Opens, ReadsFile, StoredFiles}
 use Rattle.folders.specs.Listings.{IsHostFile, ListsFolder}
-use Rattle.folders.specs.Folders.{AreFromFolders, AreFromFolder, HaveBytesOf, HasBytesOf, IsReadAs, folder_of}
+use Rattle.folders.specs.Folders.{AreFromFolders, AreFromFolder, HaveBytesOf, HasBytesOf, IsReadAs, ReadBelow, folder_of}
+use Rattle.folders.specs.DriveFolders.{HasNames}
+use Rattle.folders.specs.LetterCase.{prefers_lower}
+use Rattle.folders.specs.declared.listing.Listing.{Listing}
+use Rattle.filenames.specs.Drives.{drive_number}
 use Rattle.folders.proofs.EntryLemmas.{drive_in}
 use Rattle.folders.proofs.ListingLemmas.{Map, none_there}
 
@@ -133,25 +135,18 @@ folder_read {Z = Z} (Some stored) names drive folder listed duplicate before now
       let gone : contains_key before key ≡ false = none key on in
       cc
 
+-- A listing of which no two files are those of one host file.
+pub names_of : (files : StoredFiles) (drive : ℕ) (folder : Path) (listing : Listing) → drive_number listing.drive ≡ drive → listing.duplicate ≡ None
+    → IfSome files.bytes (λ stored. ListsFolder stored drive folder (files.names folder) listing.files listing.duplicate)
+    → IfSome files.bytes (λ _. listing.lower ≡ prefers_lower drive (files.names folder))
+    → IfSome files.bytes (λ stored. HasNames stored files.names drive folder listing)
+names_of files drive folder listing on one l w = by files.bytes l w where
+  by : (o : Option FileBytes) → IfSome o (λ stored. ListsFolder stored drive folder (files.names folder) listing.files listing.duplicate)
+      → IfSome o (λ _. listing.lower ≡ prefers_lower drive (files.names folder)) → IfSome o (λ stored. HasNames stored files.names drive folder listing)
+  by None l w = tt
+  by (Some stored) l w = record { drive_is = on; lists = l; alone = one; lower = w }
+
 -- ---- the folders of the drives, one after another
-
--- The drives are in the order of their numbers.
-pub number_in : (i : ℕ) → i < 4 → drive_number (get_or drives i A) ≡ i
-number_in zero h = refl
-number_in (suc zero) h = refl
-number_in (suc (suc zero)) h = refl
-number_in (suc (suc (suc zero))) h = refl
-number_in (suc (suc (suc (suc i)))) h = absurd (omega arith)
-
--- The drive of each name has a folder.
-abbrev pub OnlyOf : List (Option (Bor (List ℕ))) → Host → Type 0
-OnlyOf folders files = (k : Key) → contains_key files k ≡ true → is_some (folder_of folders (slice_index k 0)) ≡ true
-
--- The folders of the drives below one were read.
-pub record ReadBelow (files : StoredFiles) (folders : List (Option (Bor (List ℕ)))) (drive : ℕ) (host : Host) : Type 0 where
-  pub below : (k : Key) → contains_key host k ≡ true → slice_index k 0 < drive
-  pub only : OnlyOf folders host
-  pub all : IfSome files.bytes (λ stored. (d : ℕ) (folder : Path) → d < drive → folder_of folders d ≡ Some folder → AreFromFolder stored (files.names folder) d folder host)
 
 pub none_read : (files : StoredFiles) (folders : List (Option (Bor (List ℕ)))) (host : Host) → host ≡ empty → ReadBelow files folders 0 host
 none_read files folders host e = record {

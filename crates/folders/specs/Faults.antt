@@ -4,7 +4,7 @@ use Rattle.std.specs.Fmt.{decimal}
 use Rattle.filenames.specs.Names.{display_text}
 use Rattle.folders.specs.FileSystem.{Path}
 use Rattle.folders.specs.declared.fault.Fault.{Fault}
-use Rattle.folders.specs.declared.fault.Fault.TheVariants.{CannotRead, CannotWrite, TwoFiles, Refused}
+use Rattle.folders.specs.declared.fault.Fault.TheVariants.{CannotRead, CannotWrite, CannotMove, Changed, Irregular, Crowded, TwoFiles, Refused}
 use Rattle.folders.specs.declared.fault.Failure.{Failure}
 use Rattle.folders.specs.declared.fault.Failure.TheVariants.{AtFault, OutOfMemory}
 
@@ -12,6 +12,10 @@ use Rattle.folders.specs.declared.fault.Failure.TheVariants.{AtFault, OutOfMemor
 abbrev pub text_of : Fault → List ℕ
 text_of (CannotRead path) = codes "cannot read " ++ string_bytes path
 text_of (CannotWrite path) = codes "cannot write " ++ string_bytes path
+text_of (CannotMove path other) = codes "cannot write " ++ string_bytes path ++ codes ": its contents are in " ++ string_bytes other
+text_of (Changed path) = codes "cannot write " ++ string_bytes path ++ codes ": it was changed meanwhile"
+text_of (Irregular path) = codes "cannot write " ++ string_bytes path ++ codes ": it is no regular file"
+text_of (Crowded path) = codes "cannot write " ++ string_bytes path ++ codes ": no temporary name beside it is free"
 text_of (TwoFiles name) = codes "two files are " ++ display_text name
 text_of (Refused name n) = codes "file " ++ display_text name ++ codes " refused " ++ decimal n
 
@@ -24,6 +28,7 @@ FailsBy Such OutOfMemory = Unit {0}
 abbrev pub fault_paths : Fault → List Path
 fault_paths (CannotRead path) = string_bytes path ∷ []
 fault_paths (CannotWrite path) = string_bytes path ∷ []
+fault_paths (CannotMove path other) = string_bytes path ∷ []
 fault_paths fault = []
 
 abbrev pub failure_paths : Failure → List Path

@@ -1,9 +1,11 @@
 -- What a file system stores, and what its calls do to it. (This project's own.)
-use Rattle.std.specs.Prelude.{◌≡◌, ◌≢◌, ℕ, List, take, Option, Some, None, IsSome, ⊤}
+use Rattle.std.specs.Prelude.{◌≡◌, ◌≢◌, ◌⊎◌, ℕ, Bool, true, false, List, Contains, take, Option, Some, None, IsSome, ⊤}
 use Rattle.std.specs.Option.{option_and_then}
 use Rattle.std.specs.Ordering.{nat_cmp}
 use Rattle.std.specs.Cmp.Lexicographic.{slice_cmp}
-use Rattle.std.specs.FinMap.{FinMap, get, insert, remove}
+use Rattle.std.specs.FinMap.{FinMap, contains_key, get, insert, remove}
+use Rattle.folders.specs.declared.file_system.Kind.{Kind}
+use Rattle.folders.specs.declared.file_system.Kind.TheVariants.{Regular}
 
 -- A path, and a name in a folder, as its bytes.
 abbrev pub Path : Type 0
@@ -19,6 +21,10 @@ pub record StoredFiles : Type 0 where
   pub bytes : Option FileBytes
   pub names : Path → List Path
   pub failed : List Path
+
+abbrev pub is_regular : Kind → Bool
+is_regular Regular = true
+is_regular kind = false
 
 -- The bytes of the file of a path, if they are known.
 abbrev pub text_at : Option FileBytes → Path → Option (List ℕ)
@@ -44,9 +50,26 @@ abbrev pub ChangesAt : Path → Option FileBytes → Option FileBytes → Type 0
 ChangesAt path None after = ⊤
 ChangesAt path (Some files) after = (changed : FileBytes) × (after ≡ Some changed) × ((p : Path) → p ≢ path → get changed p ≡ get files p)
 
--- If the files are known, the file of this path is gone, and every other file is unchanged.
-abbrev pub RemovesAt : Path → Option FileBytes → Option FileBytes → Type 0
-RemovesAt path before after = Becomes before after (λ files. remove files path)
+-- If the files are known, there is one at this path just if a regular file is there.
+abbrev pub IsKindAt : Option FileBytes → Path → Kind → Type 0
+IsKindAt None path kind = ⊤
+IsKindAt (Some files) path kind = contains_key files path ≡ is_regular kind
+
+-- If the files are known, there is none at this path.
+abbrev pub IsFree : Path → Option FileBytes → Type 0
+IsFree path None = ⊤
+IsFree path (Some files) = get files path ≡ None
+
+-- If the files are known, they stay known, and each path has what it had, or it is one of these and had nothing.
+abbrev pub AddsOnly : List Path → Option FileBytes → Option FileBytes → Type 0
+AddsOnly paths None after = ⊤
+AddsOnly paths (Some files) after =
+    (now : FileBytes) × (after ≡ Some now) × ((p : Path) → (get now p ≡ get files p) ⊎ (Contains paths p × (get files p ≡ None)))
+
+-- If the files are known, they stay known, and change at these paths alone.
+abbrev pub ChangesOnly : List Path → Option FileBytes → Option FileBytes → Type 0
+ChangesOnly paths None after = ⊤
+ChangesOnly paths (Some files) after = (now : FileBytes) × (after ≡ Some now) × ((p : Path) → (get now p ≡ get files p) ⊎ Contains paths p)
 
 -- The file of one path is moved to another, replacing what was there.
 abbrev pub with_file_at : Path → Option (List ℕ) → FileBytes → FileBytes
@@ -55,15 +78,3 @@ with_file_at to (Some bytes) files = insert files to bytes
 
 abbrev pub files_after_rename : Path → Path → FileBytes → FileBytes
 files_after_rename from to files = with_file_at to (get files from) (remove files from)
-
--- A file was put in place: its path has all of these bytes, nothing is at the path under which it was written, and every other
--- file is unchanged.
-pub record IsInPlace (before now : FileBytes) (path temporary : Path) (bytes : List ℕ) : Type 0 where
-  pub there : get now path ≡ Some bytes
-  pub gone : get now temporary ≡ None
-  pub others : (p : Path) → p ≢ path → p ≢ temporary → get now p ≡ get before p
-
--- The same if the files are known.
-abbrev pub PutsInPlace : Option FileBytes → Option FileBytes → Path → Path → List ℕ → Type 0
-PutsInPlace None after path temporary bytes = ⊤
-PutsInPlace (Some files) after path temporary bytes = (now : FileBytes) × (after ≡ Some now) × IsInPlace files now path temporary bytes

@@ -111,8 +111,11 @@ pub record AreFromFolder (stored : FileBytes) (names : List Path) (drive : ℕ) 
   pub only : (key : Key) → slice_index key 0 ≡ drive → contains_key host key ≡ true → (name : Path) × Contains names name × IsHostFile stored drive folder key name
 
 -- The folder of a drive, if it has one.
+abbrev pub path_of : Option (Bor (List ℕ)) → Option (List ℕ)
+path_of folder = option_map (λ s. s.now) folder
+
 abbrev pub folder_of : List (Option (Bor (List ℕ))) → ℕ → Option (List ℕ)
-folder_of folders drive = option_map (λ s. s.now) (get_or folders drive None)
+folder_of folders drive = path_of (get_or folders drive None)
 
 -- The host files of each drive are the files of its folder, and a drive without a folder has none.
 pub record AreFromFolders (files : StoredFiles) (folders : List (Option (Bor (List ℕ)))) (host : Host) : Type 0 where
@@ -127,3 +130,24 @@ pub record FailsFolders (files : StoredFiles) (folders : List (Option (Bor (List
   pub host : Host
   pub before : IfSome files.bytes (λ stored. (d : ℕ) (f : Path) → d < drive → folder_of folders d ≡ Some f → AreFromFolder stored (files.names f) d f host)
   pub fails : FailsBy (FailsFolder files drive folder host) failure
+
+-- ---- the folders of the drives, one after another
+
+-- The drive of each name has a folder.
+abbrev pub OnlyOf : List (Option (Bor (List ℕ))) → Host → Type 0
+OnlyOf folders host = (k : Key) → contains_key host k ≡ true → is_some (folder_of folders (slice_index k 0)) ≡ true
+
+-- The folders of the drives below one were read.
+pub record ReadBelow (files : StoredFiles) (folders : List (Option (Bor (List ℕ)))) (drive : ℕ) (host : Host) : Type 0 where
+  pub below : (k : Key) → contains_key host k ≡ true → slice_index k 0 < drive
+  pub only : OnlyOf folders host
+  pub all : IfSome files.bytes (λ stored. (d : ℕ) (folder : Path) → d < drive → folder_of folders d ≡ Some folder → AreFromFolder stored (files.names folder) d folder host)
+
+-- If those were read, the folder of the next drive, if it has one, is read, or is not for this failure.
+abbrev pub ReadsNext : StoredFiles → ℕ → Option Path → Host → Host → Type 0
+ReadsNext files drive folder before after = (folders : List (Option (Bor (List ℕ)))) → folder_of folders drive ≡ folder
+    → ReadBelow files folders drive before → ReadBelow files folders (drive + 1) after
+
+abbrev pub FailsAtDrive : StoredFiles → ℕ → Option Path → Host → Failure → Type 0
+FailsAtDrive files drive folder before failure = (folders : List (Option (Bor (List ℕ)))) → folder_of folders drive ≡ folder
+    → ReadBelow files folders drive before → FailsFolders files folders failure

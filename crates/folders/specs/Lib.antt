@@ -4,6 +4,8 @@ pub mod FolderNames
 pub mod Faults
 pub mod Listings
 pub mod Folders
+pub mod LetterCase
+pub mod DriveFolders
 pub mod ChangedBytes
-pub mod OwnPaths
+pub mod Temporaries
 pub mod Places

@@ -13,6 +13,14 @@ pub enum Fault {
     CannotRead(String),
     /// The file of this path could not be written.
     CannotWrite(String),
+    /// The file of the first path could not be moved there: its contents are in the file of the second path.
+    CannotMove(String, String),
+    /// What is at this path is not what was loaded from it.
+    Changed(String),
+    /// What is at this path is no regular file.
+    Irregular(String),
+    /// Beside this path no temporary name is free.
+    Crowded(String),
     /// Two files in a folder have this name, the first such by its key.
     TwoFiles(Name),
     /// The host file of this name is refused, with the number of `FilesError`: 1 for more than 8,388,608 bytes, 2 for a 513th
@@ -39,6 +47,17 @@ impl fmt::Display for Fault {
         match self {
             Fault::CannotRead(path) => write!(f, "cannot read {path}"),
             Fault::CannotWrite(path) => write!(f, "cannot write {path}"),
+            Fault::CannotMove(path, other) => {
+                write!(f, "cannot write {path}: its contents are in {other}")
+            }
+            Fault::Changed(path) => write!(f, "cannot write {path}: it was changed meanwhile"),
+            Fault::Irregular(path) => write!(f, "cannot write {path}: it is no regular file"),
+            Fault::Crowded(path) => {
+                write!(
+                    f,
+                    "cannot write {path}: no temporary name beside it is free"
+                )
+            }
             Fault::TwoFiles(name) => write!(f, "two files are {name}"),
             Fault::Refused(name, number) => write!(f, "file {name} refused {number}"),
         }

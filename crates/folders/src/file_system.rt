@@ -1,16 +1,16 @@
 // The files of a machine, by their paths.
 
 ghost use Rattle.std.specs.Prelude.{◌≡◌, ◌<◌, ◌∷◌, ℕ, List, [], None, IfOk, OnOk, OnErr, IfSome, map, string_bytes};
-ghost use Rattle.std.specs.FinMap.{contains_key, insert, remove};
+ghost use Rattle.std.specs.FinMap.{insert, remove};
 ghost use Rattle.std.specs.Io.KnownBytes.{Appends};
 ghost use Rattle.folders.specs.Failures.{AddsPaths, KeepsFiles, ReportsPaths, io_paths};
-ghost use Rattle.folders.specs.FileSystem.{Becomes, ChangesAt, Opens, ReadsFile, StoredFiles, files_after_rename};
+ghost use Rattle.folders.specs.FileSystem.{AddsOnly, Becomes, ChangesAt, IsFree, IsKindAt, Opens, ReadsFile, StoredFiles, files_after_rename};
 ghost use Rattle.streams.specs.Trails.{paths};
 
 use std::alloc::Global;
-use std::fs::{OpenFile, OpenOptions, Permissions, read_dir};
+use std::fs::{File, OpenFile, OpenOptions, Permissions, read_dir};
 use std::io::{BufWriter, ErrorKind, Read, Write};
-use std::os::unix::fs::OpenOptionsExt;
+use std::os::unix::fs::{MetadataExt, OpenOptionsExt};
 use std::rt::Files;
 use std::{fs, io};
 use streams::{Over, Reader, Trail};
@@ -25,12 +25,35 @@ pub trait Contents {
         ensures { OnOk result (Appends (W.contents writer.old) (W.contents writer.new) (bytes self.now)) };
 }
 
+/// What is at a path.
+#[derive(Clone, Copy, Debug, PartialEq, Eq)]
+pub enum Kind {
+    /// Nothing.
+    Absent,
+    /// A regular file.
+    Regular,
+    /// Anything else, such as a folder, a link or a device.
+    Other,
+}
+
+/// Which file or folder of a machine is meant, whatever its path: the numbers of its device and of its place there.
+#[derive(Clone, Copy, Debug, PartialEq, Eq, PartialOrd, Ord)]
+pub struct Id {
+    /// The number of the device.
+    pub device: u64,
+    /// The number of the file or folder on the device.
+    pub number: u64,
+}
+
 /// Files by their paths. A contract sees the bytes of each regular file, if the file system reports them (an operating system's
 /// does not), and the paths at which it failed: an error adds the path of its call, unless an allocation failed. Different paths are
 /// different files.
 pub trait FileSystem {
     /// An open file that is read.
     type Input: Reader + Drop;
+
+    /// A folder that is locked until this is dropped.
+    type Lock: Drop;
 
     /// What it stores, if that is known, and the paths at which it failed.
     ghost files: { Self → StoredFiles };
@@ -63,19 +86,50 @@ pub trait FileSystem {
             map string_bytes listed.items ≡ (files self.old).names folder.now)) }
         ensures unchanged { KeepsFiles (io_paths folder.now) result (files self.old) (files self.new) };
 
-    /// Returns whether there is a regular file at a path; a link to one is none.
-    fn is_file(&mut self, path: &str) -> io::Result<bool>
-        ensures is { IfOk result
-            (λ is. IfSome (files self.old).bytes (λ stored. is ≡ contains_key stored path.now)) }
+    /// Returns what is at a path; a link is no regular file.
+    fn kind(&mut self, path: &str) -> io::Result<Kind>
+        ensures is { IfOk result (λ kind. IsKindAt (files self.old).bytes path.now kind) }
         ensures unchanged { KeepsFiles (io_paths path.now) result (files self.old) (files self.new) };
 
+    /// Returns which regular file or folder is at a path, or at the end of a link, or `None` if neither is there.
+    fn id(&mut self, path: &str) -> io::Result<Option<Id>>
+        ensures unchanged { KeepsFiles (io_paths path.now) result (files self.old) (files self.new) };
+
+    /// Locks a folder. While another program has it locked, this waits.
+    fn lock(&mut self, folder: &str) -> io::Result<Self::Lock>
+        ensures unchanged { KeepsFiles (io_paths folder.now) result (files self.old) (files self.new) };
+
+    /// Makes sure that the names in a folder outlast a power failure.
+    fn sync(&mut self, folder: &str) -> io::Result<()>
+        ensures unchanged { KeepsFiles (io_paths folder.now) result (files self.old) (files self.new) };
+
+    /// Returns whether nothing is at a path at which the file of a target is to be written first. The path that an error adds is the
+    /// target, as it is not written.
+    fn is_free(&mut self, path: &str, target: &str) -> io::Result<bool>
+        ensures unchanged { KeepsFiles (io_paths target.now) result (files self.old) (files self.new) };
+
     /// Writes a new file, if nothing is at the path, that is then to be moved to a target, with the mode of the file that is there, if
-    /// one is. An error may leave a part of it; the path that failed is the target, as it is not written.
-    fn write_new<C: Contents>(&mut self, path: &str, target: &str, contents: &C) -> io::Result<()>
+    /// one is, and makes sure that its contents outlast a power failure, if this is wanted. An error may leave a part of the file, but never
+    /// changes one that was there; the path that failed is the target, as it is not written.
+    fn write_new<C: Contents>(
+        &mut self,
+        path: &str,
+        target: &str,
+        contents: &C,
+        durable: bool,
+    ) -> io::Result<()>
         ensures written { OnOk result (Becomes (files self.old).bytes (files self.new).bytes
             (λ stored. insert stored path.now (C.bytes contents.now))) }
-        ensures others { ChangesAt path.now (files self.old).bytes (files self.new).bytes }
+        ensures free { OnOk result (IsFree path.now (files self.old).bytes) }
+        ensures err { OnErr result
+            (AddsOnly (path.now ∷ []) (files self.old).bytes (files self.new).bytes) }
         ensures failed { ReportsPaths (io_paths target.now) result (files self.old) (files self.new) };
+
+    /// Writes to what is at a path and is no regular file, such as a device or a pipe, or what a link leads to.
+    fn write_into<C: Contents>(&mut self, path: &str, contents: &C) -> io::Result<()>
+        ensures bytes { IsFree path.now (files self.old).bytes
+            → (files self.new).bytes ≡ (files self.old).bytes }
+        ensures failed { ReportsPaths (io_paths path.now) result (files self.old) (files self.new) };
 
     /// Moves the file of one path to another, replacing what is there. The path that an error adds is the second, as it is not
     /// written.
@@ -154,7 +208,7 @@ impl<'a, R> SystemFiles<'a, R> {
     }
 }
 
-impl<R: Files + AllocGlobal + Clone + Drop> SystemFiles<'_, R> {
+impl<R: Files<File = File> + AllocGlobal + Clone + Drop> SystemFiles<'_, R> {
     fn names_in(&self, folder: &str) -> io::Result<Vec<String>> {
         let mut names = Vec::new(self.rt.alloc());
         for entry in read_dir(self.rt, folder)? {
@@ -163,12 +217,44 @@ impl<R: Files + AllocGlobal + Clone + Drop> SystemFiles<'_, R> {
         Ok(names)
     }
 
-    fn is_regular(&self, path: &str) -> io::Result<bool> {
-        Ok(fs::symlink_metadata(self.rt, path)?.is_file())
+    fn kind_of(&self, path: &str) -> io::Result<Kind> {
+        match fs::symlink_metadata(self.rt, path) {
+            Ok(found) if found.is_file() => Ok(Kind::Regular),
+            Ok(_) => Ok(Kind::Other),
+            Err(error) if error.kind() == ErrorKind::NotFound => Ok(Kind::Absent),
+            Err(error) => Err(error),
+        }
+    }
+
+    fn id_of(&self, path: &str) -> io::Result<Option<Id>> {
+        match fs::metadata(self.rt, path) {
+            Ok(found) if found.is_file() || found.is_dir() => Ok(Some(Id {
+                device: found.dev(),
+                number: found.ino(),
+            })),
+            Ok(_) => Ok(None),
+            Err(error) => match error.kind() {
+                ErrorKind::NotFound | ErrorKind::NotADirectory => Ok(None),
+                _ => Err(error),
+            },
+        }
+    }
+
+    fn locked(&self, folder: &str) -> io::Result<File> {
+        if !fs::metadata(self.rt, folder)?.is_dir() {
+            return Err(io::Error::from(ErrorKind::NotADirectory));
+        }
+        let opened = fs::open(self.rt, folder)?;
+        opened.lock()?;
+        Ok(opened)
     }
 
     fn read_from(&self, path: &str, most: u64) -> io::Result<Vec<u8>> {
         read_first(self.rt.alloc(), fs::open(self.rt, path)?, most)
+    }
+
+    fn synced(&self, folder: &str) -> io::Result<()> {
+        fs::open(self.rt, folder)?.sync_all()
     }
 
     // Returns the permissions of the regular file at a path, if there is one.
@@ -181,8 +267,14 @@ impl<R: Files + AllocGlobal + Clone + Drop> SystemFiles<'_, R> {
         }
     }
 
-    // Writes a new file with the permissions of the file that it replaces. Until then nobody else can read it.
-    fn write_at<C: Contents>(&self, path: &str, target: &str, contents: &C) -> io::Result<()> {
+    // Writes a new file with the permissions of the file that it replaces. Until then nobody else can read it. A part is removed.
+    fn write_at<C: Contents>(
+        &self,
+        path: &str,
+        target: &str,
+        contents: &C,
+        durable: bool,
+    ) -> io::Result<()> {
         let permissions = self.permissions_at(target)?;
         let mut options = OpenOptions::new();
         options.write(true).create_new(true);
@@ -190,16 +282,44 @@ impl<R: Files + AllocGlobal + Clone + Drop> SystemFiles<'_, R> {
             options.mode(0o600);
         }
         let file = options.open(self.rt, path)?;
-        let written = write_whole(self.rt.alloc(), file, contents)?;
-        match permissions {
-            Some(permissions) => written.set_permissions(permissions),
-            None => Ok(()),
+        let filled = self.fill(file, permissions, contents, durable);
+        if filled.is_err() {
+            let _ = fs::remove_file(self.rt, path);
         }
+        filled
+    }
+
+    // Writes contents to a new file, and gives it the permissions of the file that it replaces.
+    fn fill<C: Contents>(
+        &self,
+        file: File,
+        permissions: Option<Permissions>,
+        contents: &C,
+        durable: bool,
+    ) -> io::Result<()> {
+        let written = write_whole(self.rt.alloc(), file, contents)?;
+        if let Some(permissions) = permissions {
+            written.set_permissions(permissions)?;
+        }
+        if durable {
+            written.sync_all()?;
+        }
+        Ok(())
+    }
+
+    fn write_through<C: Contents>(&self, path: &str, contents: &C) -> io::Result<()> {
+        let mut options = OpenOptions::new();
+        options.write(true).create(true).truncate(true);
+        let opened = options.open(self.rt, path)?;
+        write_whole(self.rt.alloc(), opened, contents)?;
+        Ok(())
     }
 }
 
-impl<R: Files + AllocGlobal + Clone + Drop> FileSystem for SystemFiles<'_, R> {
-    type Input = Over<R::File>;
+impl<R: Files<File = File> + AllocGlobal + Clone + Drop> FileSystem for SystemFiles<'_, R> {
+    type Input = Over<File>;
+
+    type Lock = File;
 
     ghost files = { λ system. record { bytes = None; names = λ _. []; failed = paths system.failed } };
 
@@ -207,7 +327,7 @@ impl<R: Files + AllocGlobal + Clone + Drop> FileSystem for SystemFiles<'_, R> {
         self.rt.alloc()
     }
 
-    fn open(&mut self, path: &str) -> io::Result<Over<R::File>> {
+    fn open(&mut self, path: &str) -> io::Result<Over<File>> {
         let opened = fs::open(self.rt, path);
         match self.note(path, opened) {
             Ok(file) => Ok(Over::new(file)),
@@ -215,7 +335,7 @@ impl<R: Files + AllocGlobal + Clone + Drop> FileSystem for SystemFiles<'_, R> {
         }
     }
 
-    fn note_failed_read(&mut self, path: &str, _input: &Over<R::File>) {
+    fn note_failed_read(&mut self, path: &str, _input: &Over<File>) {
         self.failed = self.failed.and(path);
     }
 
@@ -229,14 +349,48 @@ impl<R: Files + AllocGlobal + Clone + Drop> FileSystem for SystemFiles<'_, R> {
         self.note(folder, names)
     }
 
-    fn is_file(&mut self, path: &str) -> io::Result<bool> {
-        let is = self.is_regular(path);
-        self.note(path, is)
+    fn kind(&mut self, path: &str) -> io::Result<Kind> {
+        let kind = self.kind_of(path);
+        self.note(path, kind)
     }
 
-    fn write_new<C: Contents>(&mut self, path: &str, target: &str, contents: &C) -> io::Result<()> {
-        let written = self.write_at(path, target, contents);
+    fn is_free(&mut self, path: &str, target: &str) -> io::Result<bool> {
+        let kind = self.kind_of(path);
+        match self.note(target, kind) {
+            Ok(kind) => Ok(kind == Kind::Absent),
+            Err(error) => Err(error),
+        }
+    }
+
+    fn id(&mut self, path: &str) -> io::Result<Option<Id>> {
+        let id = self.id_of(path);
+        self.note(path, id)
+    }
+
+    fn lock(&mut self, folder: &str) -> io::Result<File> {
+        let locked = self.locked(folder);
+        self.note(folder, locked)
+    }
+
+    fn sync(&mut self, folder: &str) -> io::Result<()> {
+        let synced = self.synced(folder);
+        self.note(folder, synced)
+    }
+
+    fn write_new<C: Contents>(
+        &mut self,
+        path: &str,
+        target: &str,
+        contents: &C,
+        durable: bool,
+    ) -> io::Result<()> {
+        let written = self.write_at(path, target, contents, durable);
         self.note(target, written)
+    }
+
+    fn write_into<C: Contents>(&mut self, path: &str, contents: &C) -> io::Result<()> {
+        let written = self.write_through(path, contents);
+        self.note(path, written)
     }
 
     fn rename(&mut self, from: &str, to: &str) -> io::Result<()> {

@@ -2,8 +2,8 @@
 
 ghost use Rattle.std.specs.Prelude.{◌≡◌, ◌++◌, codes, IfOk, IfSome, slice_index, string_bytes};
 ghost use Rattle.filenames.specs.Drives.{drive_number};
-ghost use Rattle.folders.specs.OwnPaths.{IsTemporaryOf};
 ghost use Rattle.folders.specs.FolderNames.{key_in, folder_name, needs_slash, path_text};
+ghost use Rattle.folders.specs.Temporaries.{IsTemporaryOf, suffix};
 
 use filenames::{Drive, Name};
 use std::alloc::{AllocError, Global};
@@ -31,26 +31,37 @@ pub fn file_name(alloc: Global, name: &Name) -> Result<String, AllocError>
     format!(in alloc; "{plain}")
 }
 
-// Returns the path at which a file is first written in a folder.
-fn temporary_in(alloc: Global, folder: &str, name: &str) -> Result<String, AllocError>
+// Returns what is after the name in a temporary path with this number.
+fn suffix(alloc: Global, number: u32) -> Result<String, AllocError>
+    ensures { IfOk result (λ s. string_bytes s ≡ suffix number) }
+{
+    if number == 0 {
+        return String::from_str(alloc, ".new");
+    }
+    format!(in alloc; ".new.{number}")
+}
+
+// Returns a path in a folder, with a `.` before the name and this text after it.
+fn temporary_in(alloc: Global, folder: &str, name: &str, suffix: &str) -> Result<String, AllocError>
     ensures { IfOk result (λ s.
-        string_bytes s ≡ folder.now ++ codes "/." ++ name.now ++ codes ".new") }
+        string_bytes s ≡ folder.now ++ codes "/." ++ name.now ++ suffix.now) }
 {
     let mut path = String::from_str(alloc, folder)?;
     path.push_str("/.")?;
     path.push_str(name)?;
-    path.push_str(".new")?;
+    path.push_str(suffix)?;
     Ok(path)
 }
 
-/// Returns the path at which the file of a path is first written: in the same folder, with a `.` before its name and `.new` after it.
-/// No host file has this name on any drive, as it begins with a `.`.
-pub fn temporary_path(alloc: Global, path: &str) -> Result<String, AllocError>
+/// Returns a path at which the file of a path can first be written: in the same folder, with a `.` before its name and `.new` after it, or
+/// `.new.` and the number if that is not 0. No host file has this name on any drive, as it begins with a `.`.
+pub fn temporary_path(alloc: Global, path: &str, number: u32) -> Result<String, AllocError>
     ensures { IfOk result (λ s. IsTemporaryOf path.now (string_bytes s)) }
 {
+    let suffix = suffix(alloc, number)?;
     match path.rsplit_once('/') {
-        Some((folder, name)) => temporary_in(alloc, folder, name),
-        None => format!(in alloc; ".{path}.new"),
+        Some((folder, name)) => temporary_in(alloc, folder, name, suffix.as_str()),
+        None => format!(in alloc; ".{path}{suffix}"),
     }
 }
 

@@ -1,10 +1,11 @@
 // The files of a folder by their names.
 
-ghost use Rattle.std.specs.Prelude.{◌≡◌, ℕ, List, true, None, OnOk, OnErr, slice_index};
+ghost use Rattle.std.specs.Prelude.{◌≡◌, ℕ, List, true, None, Some, OnOk, OnErr, slice_index, string_bytes};
 ghost use Rattle.std.specs.FinMap as finmap;
-ghost use Rattle.std.specs.Option.{ForSome};
+ghost use Rattle.std.specs.Option.{ForSome, option_map};
 ghost use Rattle.filenames.specs.Drives.{drive_number};
 ghost use Rattle.filenames.specs.Names.{is_sayable};
+ghost use Rattle.folders.specs.FolderNames.{key_in};
 ghost use Rattle.folders.specs.Listings.{ListsAgain, ListsOnce, least};
 
 use filenames::{Drive, Name};
@@ -21,16 +22,21 @@ pub struct Listing {
     pub files: KeyMap<String>,
     /// The first name, by its key, that two files have.
     pub duplicate: Option<Name>,
+    /// Whether new names are in lower case, as most names of the folder are.
+    pub lower: bool,
     ghost names: { (k : List ℕ) → finmap.contains_key files k ≡ true → is_sayable k ≡ true },
     ghost on_drive: { (k : List ℕ) → finmap.contains_key files k ≡ true
         → slice_index k 0 ≡ drive_number drive },
+    ghost named: { (k name : List ℕ) → option_map string_bytes (finmap.get files k) ≡ Some name
+        → key_in (slice_index k 0) name ≡ Some k },
     ghost duplicate_there: { ForSome duplicate (λ k. finmap.contains_key files k ≡ true) },
 }
 
 impl Listing {
     /// Returns a listing with no file. Allocates nothing.
-    pub fn new(alloc: Global, drive: Drive) -> Listing
+    pub fn new(alloc: Global, drive: Drive, lower: bool) -> Listing
         ensures drive { result.drive ≡ drive }
+        ensures lower { result.lower ≡ lower }
         ensures files { result.files ≡ finmap.empty }
         ensures duplicate { result.duplicate ≡ None }
     {
@@ -38,13 +44,16 @@ impl Listing {
             drive,
             files: KeyMap::new(alloc),
             duplicate: None,
+            lower,
         }
     }
 
     /// Adds a file by its name on the listing's drive, and its name in the folder. An error changes nothing.
     pub fn add(&mut self, name: &Name, file: String) -> Result<(), AllocError>
-        requires { slice_index name.now 0 ≡ drive_number self.old.drive }
+        requires on_drive { slice_index name.now 0 ≡ drive_number self.old.drive }
+        requires named { key_in (slice_index name.now 0) (string_bytes file) ≡ Some name.now }
         ensures drive { self.new.drive ≡ self.old.drive }
+        ensures lower { self.new.lower ≡ self.old.lower }
         ensures once { OnOk result (ListsOnce name.now file
             self.old.files self.old.duplicate self.new.files self.new.duplicate) }
         ensures again { OnOk result (ListsAgain name.now

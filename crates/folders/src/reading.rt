@@ -4,15 +4,18 @@ ghost use Rattle.std.specs.Prelude.{◌≡◌, ◌≢◌, ◌∷◌, ◌++◌, [
 ghost use Rattle.std.specs.FinMap as finmap;
 ghost use Rattle.filenames.specs.Drives.{drive_number};
 ghost use Rattle.hostfiles.specs.Hosts.{records_in, refusal_of};
-ghost use Rattle.folders.specs.FolderNames.{path_text};
+ghost use Rattle.folders.specs.FolderNames.{key_in, path_text};
 ghost use Rattle.folders.specs.Failures.{KeepsFiles};
 ghost use Rattle.folders.specs.Faults.{FailsBy, IsReadFault, failure_paths};
-ghost use Rattle.folders.specs.Folders.{AreFromFolders, AreFromFolder, FailsFile, FailsFolder, FailsFolders, FailsListed, FailsListing, FailsName, HaveBytesOf, HasBytesOf, IsEntryFault, RefusesAs, KeepsFilesWhere};
+ghost use Rattle.folders.specs.Folders.{AreFromFolders, AreFromFolder, FailsFile, FailsFolder, FailsFolders, FailsListed, FailsListing, FailsName, HaveBytesOf, HasBytesOf, IsEntryFault, RefusesAs, KeepsFilesWhere, FailsAtDrive, ReadsNext, path_of};
+ghost use Rattle.folders.specs.DriveFolders.{AreListings, HasNames, ListsDrive};
+ghost use Rattle.folders.specs.LetterCase.{prefers_lower};
 ghost use Rattle.folders.specs.Listings.{Finds, ListsFolder};
 
 use crate::fault::{Failure, Fault, read_failure};
-use crate::file_system::FileSystem;
+use crate::file_system::{FileSystem, Kind};
 use crate::folder_names::{name_in_folder, path_in};
+use crate::letter_case::prefers_lower;
 use crate::listing::Listing;
 use filenames::{Drive, Key, Name};
 use hostfiles::host::FILE_LIMIT;
@@ -45,6 +48,8 @@ fn host_file<S: FileSystem>(
 ) -> Result<Option<Name>, Failure>
     ensures drive { IfOk result
         (λ found. IfSome found (λ name. slice_index name 0 ≡ drive_number drive)) }
+    ensures key { IfOk result
+        (λ found. IfSome found (λ name. key_in (drive_number drive) file.now ≡ Some name)) }
     ensures finds { IfOk result (λ found. IfSome (S.files system.old).bytes (λ stored.
         Finds stored (drive_number drive) folder.now file.now found)) }
     ensures fault { IfErr result (FailsBy (IsEntryFault (drive_number drive) folder.now file.now)) }
@@ -56,14 +61,11 @@ fn host_file<S: FileSystem>(
     let Ok(entry) = path_in(system.alloc(), folder, file) else {
         return Err(Failure::OutOfMemory);
     };
-    let is_file = match system.is_file(entry.as_str()) {
-        Ok(is_file) => is_file,
-        Err(error) => return Err(read_failure(error, entry)),
-    };
-    if !is_file {
-        return Ok(None);
+    match system.kind(entry.as_str()) {
+        Ok(Kind::Regular) => Ok(Some(name)),
+        Ok(_) => Ok(None),
+        Err(error) => Err(read_failure(error, entry)),
     }
-    Ok(Some(name))
 }
 
 // Adds a file of this name in the folder, if it is a host file.
@@ -74,6 +76,7 @@ fn add_file<S: FileSystem>(
     listing: &mut Listing,
 ) -> Result<(), Failure>
     ensures drive { listing.new.drive ≡ listing.old.drive }
+    ensures lower { listing.new.lower ≡ listing.old.lower }
     ensures lists { OnOk result (IfSome (S.files system.old).bytes (λ stored. (names : List (List ℕ))
         → ListsFolder stored
         (drive_number listing.old.drive) folder.now names listing.old.files listing.old.duplicate
@@ -96,7 +99,7 @@ fn add_file<S: FileSystem>(
 }
 
 // Returns the names in a folder.
-pub(crate) fn names_in<S: FileSystem>(system: &mut S, folder: &str) -> Result<Vec<String>, Failure>
+fn names_in<S: FileSystem>(system: &mut S, folder: &str) -> Result<Vec<String>, Failure>
     ensures names { IfOk result (λ names. IfSome (S.files system.old).bytes (λ _.
         map string_bytes names.items ≡ (S.files system.old).names folder.now)) }
     ensures fault { IfErr result (FailsBy (IsReadFault folder.now)) }
@@ -112,13 +115,15 @@ pub(crate) fn names_in<S: FileSystem>(system: &mut S, folder: &str) -> Result<Ve
 }
 
 // Lists the host files among these names in the folder of a drive.
-pub(crate) fn list_names<S: FileSystem>(
+fn list_names<S: FileSystem>(
     system: &mut S,
     drive: Drive,
     folder: &str,
     names: &[String],
 ) -> Result<Listing, Failure>
     ensures drive { IfOk result (λ listing. listing.drive ≡ drive) }
+    ensures lower { IfOk result
+        (λ listing. listing.lower ≡ prefers_lower (drive_number drive) (map string_bytes names.now)) }
     ensures lists { IfOk result (λ listing. IfSome (S.files system.old).bytes (λ stored.
         ListsFolder stored (drive_number drive) folder.now (map string_bytes names.now)
         listing.files listing.duplicate)) }
@@ -126,20 +131,18 @@ pub(crate) fn list_names<S: FileSystem>(
         (FailsName (map string_bytes names.now) (drive_number drive) folder.now)) }
     ensures unchanged { KeepsFiles failure_paths result (S.files system.old) (S.files system.new) }
 {
-    let mut listing = Listing::new(system.alloc(), drive);
+    let mut listing = Listing::new(system.alloc(), drive, prefers_lower(drive, names));
     for name in names {
         add_file(system, folder, name.as_str(), &mut listing)?;
     }
     Ok(listing)
 }
 
-/// Lists the host files in the folder of a drive, by their names.
-///
-/// # Errors
-///
-/// Returns `Err` if the folder or what is at a valid name in it cannot be read, or an allocation fails.
-pub fn list<S: FileSystem>(system: &mut S, drive: Drive, folder: &str) -> Result<Listing, Failure>
+// Lists the host files in the folder of a drive, by their names.
+fn list<S: FileSystem>(system: &mut S, drive: Drive, folder: &str) -> Result<Listing, Failure>
     ensures drive { IfOk result (λ listing. listing.drive ≡ drive) }
+    ensures lower { IfOk result (λ listing. IfSome (S.files system.old).bytes (λ _.
+        listing.lower ≡ prefers_lower (drive_number drive) ((S.files system.old).names folder.now))) }
     ensures lists { IfOk result (λ listing. IfSome (S.files system.old).bytes (λ stored.
         ListsFolder stored (drive_number drive) folder.now ((S.files system.old).names folder.now)
         listing.files listing.duplicate)) }
@@ -211,19 +214,21 @@ fn read_listed<S: FileSystem>(
 /// Reads the folder of a drive that has no files yet: each regular file in it with a valid name. Links and all else are ignored,
 /// but an entry that cannot be listed, such as one whose name is not UTF-8, is an error of the folder. It is an error if two
 /// files have the same name, and then no file is read. Files are set in the order of their keys, up to the first that cannot be
-/// read or set. Names on other drives stay unchanged.
+/// read or set. Names on other drives stay unchanged. Returns the names of its files.
 pub fn read_folder<S: FileSystem>(
     system: &mut S,
     drive: Drive,
     folder: &str,
     files: &mut HostFiles,
-) -> Result<(), Failure>
+) -> Result<Listing, Failure>
     requires { (k : List ℕ) → slice_index k 0 ≡ drive_number drive
         → finmap.contains_key files.old k ≡ false }
     ensures others { KeepsFilesWhere (λ k. slice_index k 0 ≢ drive_number drive) files.old files.new }
     ensures read { OnOk result (IfSome (S.files system.old).bytes (λ stored.
         AreFromFolder stored ((S.files system.old).names folder.now)
         (drive_number drive) folder.now files.new)) }
+    ensures names { IfOk result (λ listing. IfSome (S.files system.old).bytes (λ stored.
+        HasNames stored (S.files system.old).names (drive_number drive) folder.now listing)) }
     ensures fault { IfErr result (FailsBy (FailsFolder (S.files system.old)
         (drive_number drive) folder.now files.new)) }
     ensures unchanged { KeepsFiles failure_paths result (S.files system.old) (S.files system.new) }
@@ -232,24 +237,60 @@ pub fn read_folder<S: FileSystem>(
     if let Some(name) = listing.duplicate {
         return Err(Failure::AtFault(Fault::TwoFiles(name)));
     }
-    read_listed(system, folder, &listing, files)
+    read_listed(system, folder, &listing, files)?;
+    Ok(listing)
 }
 
-/// Returns exactly the host files in the folders of the drives A to D, as far as they have folders. The folders are read in this
-/// order; the files of a folder are all listed before one of them is read.
+// Reads the folder of a drive that has no files yet, if it has a folder.
+fn read_drive<S: FileSystem>(
+    system: &mut S,
+    drive: Drive,
+    folder: Option<&str>,
+    files: &mut HostFiles,
+) -> Result<Option<Listing>, Failure>
+    requires { (k : List ℕ) → slice_index k 0 ≡ drive_number drive
+        → finmap.contains_key files.old k ≡ false }
+    ensures read { OnOk result (ReadsNext (S.files system.old)
+        (drive_number drive) (path_of folder.entry) files.old files.new) }
+    ensures names { IfOk result (λ found. IfSome (S.files system.old).bytes (λ stored.
+        ListsDrive stored (S.files system.old).names (drive_number drive) (path_of folder.entry) found)) }
+    ensures fault { IfErr result (FailsAtDrive (S.files system.old)
+        (drive_number drive) (path_of folder.entry) files.old) }
+    ensures unchanged { KeepsFiles failure_paths result (S.files system.old) (S.files system.new) }
+{
+    match folder {
+        Some(folder) => Ok(Some(read_folder(system, drive, folder, files)?)),
+        None => Ok(None),
+    }
+}
+
+/// The host files of the drives A to D, and their names in the folders from which they were read.
+#[derive(Drop)]
+pub struct ReadFolders {
+    /// The host files.
+    pub files: HostFiles,
+    /// The names in the folder of each drive, if it has one.
+    pub listings: [Option<Listing>; 4],
+}
+
+/// Returns exactly the host files in the folders of the drives A to D, as far as they have folders, and their names there. The folders are read
+/// in this order; the files of a folder are all listed before one of them is read.
 pub fn read_folders<S: FileSystem>(
     system: &mut S,
     folders: &[Option<&str>; 4],
-) -> Result<HostFiles, Failure>
-    ensures files { IfOk result (AreFromFolders (S.files system.old) folders.now) }
+) -> Result<ReadFolders, Failure>
+    ensures files { IfOk result (λ read. AreFromFolders (S.files system.old) folders.now read.files) }
+    ensures names { IfOk result (λ read. AreListings (S.files system.old) folders.now read.listings) }
     ensures fault { IfErr result (FailsFolders (S.files system.old) folders.now) }
     ensures unchanged { KeepsFiles failure_paths result (S.files system.old) (S.files system.new) }
 {
     let mut files = HostFiles::new(system.alloc());
-    for drive in Drive::ALL {
-        if let Some(folder) = folders[drive.number() as usize] {
-            read_folder(system, drive, folder, &mut files)?;
-        }
-    }
-    Ok(files)
+    let a = read_drive(system, Drive::A, folders[0], &mut files)?;
+    let b = read_drive(system, Drive::B, folders[1], &mut files)?;
+    let c = read_drive(system, Drive::C, folders[2], &mut files)?;
+    let d = read_drive(system, Drive::D, folders[3], &mut files)?;
+    Ok(ReadFolders {
+        files,
+        listings: [a, b, c, d],
+    })
 }

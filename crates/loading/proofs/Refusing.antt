@@ -1,5 +1,5 @@
 -- A session that is made or refused, by the words.
-use Rattle.std.proofs.Common.{◌≡◌, ◌∙◌, ℕ, List, Some, None, Option, Result, Ok, Err, IfErr, IfSome, inl, inr, refl, sym, ap}
+use Rattle.std.proofs.Common.{◌≡◌, ◌∙◌, ℕ, Bool, true, false, cond, subst, List, Some, None, Option, Result, Ok, Err, IfErr, IfSome, inl, inr, refl, sym, ap}
 use Rattle.std.specs.Prelude.{MatchOption}
 use Rattle.std.specs.Borrow.{Bor}
 use Rattle.command_words.specs.CommandLine.{text_of}
@@ -16,7 +16,7 @@ use Rattle.loading.specs.Faults.{fault_of}
 use Rattle.loading.specs.Typed.{IsTyped}
 use Rattle.loading.specs.declared.fault.LoadFault.{LoadFault}
 use Rattle.loading.specs.declared.fault.LoadFault.TheVariants.{BadEscape, CannotRead, Folders, Refused, OutOfMemory}
-use Rattle.loading.specs.Loading.{FailsToLoad, HasTypedScript, IsProgramOf, IsReadFaultIfAny, IsReadFaultOf, IsScriptAt, IsScriptOf, IsTypedFault, IsTypedScript, MadeOrRefused}
+use Rattle.loading.specs.Loading.{FailsToLoad, HasTypedScript, IsLoadedFrom, IsProgramOf, IsReadFaultIfAny, IsReadFaultOf, IsScriptAt, IsScriptOf, IsTypedFault, IsTypedScript, MadeOrRefused}
 
 -- A refusal of the session is a refusal of the words.
 pub refused_of_words : (stored : StoredFiles) (w : SessionWords) (program : List ℕ) (files : Host) (script : List ℕ) (r : Result Session LoadFault)
@@ -91,3 +91,22 @@ script_unread stored w program files f none of from h = by_path (text_of w.conso
   by_path : (o : Option Path) → text_of w.console ≡ o → IsReadFaultIfAny o f → FailsToLoad stored w f
   by_path None e h = absurd h
   by_path (Some path) e h = by_fault path e f h
+
+-- A session that is made has the parts from which it is made.
+parts : (p t : List ℕ) (f : Host) (r : List ℕ) (l : ℕ) (s : Session) (a b c d e : Bool)
+    → cond {A = Result Session ℕ} a (Err 1) (cond b (Err 2) (cond c (Err 3) (cond d (Err 4) (cond e (Err 5) (Ok (record { program = p; tail = t; files = f; script = r; limit = l })))))) ≡ Ok s
+    → s ≡ record { program = p; tail = t; files = f; script = r; limit = l }
+parts p t f r l s true b c d e h = cc
+parts p t f r l s false true c d e h = cc
+parts p t f r l s false false true d e h = cc
+parts p t f r l s false false false true e h = cc
+parts p t f r l s false false false false true h = cc
+parts p t f r l s false false false false false h = cc
+
+-- The session of parts of the words is loaded.
+pub loaded_of_words : (stored : StoredFiles) (w : SessionWords) (program tail : List ℕ) (files : Host) (script : List ℕ) (s : Session)
+    → IsProgramOf stored w program → tail ≡ w.tail.now → AreFromFolders stored w.files files → IsScriptOf stored w script
+    → session_or_refusal program tail files script w.limit ≡ Ok s → IsLoadedFrom stored w s
+loaded_of_words stored w program tail files script s p t a b h =
+    subst (IsLoadedFrom stored w) (sym (parts program tail files script w.limit s _ _ _ _ _ h))
+    (record { program = p; tail = t; files = a; script = b; limit = refl })

@@ -10,4 +10,4 @@ mod loading;
 mod typed;
 
 pub use fault::LoadFault;
-pub use loading::{load, open};
+pub use loading::{Loaded, load, open};

@@ -2,6 +2,7 @@
 
 ghost use Rattle.std.specs.Prelude.{◌≡◌, ◌+◌, None, IfOk, IfErr, option_map};
 ghost use Rattle.command_words.specs.CommandLine.{text_of};
+ghost use Rattle.folders.specs.DriveFolders.{AreListings};
 ghost use Rattle.folders.specs.Failures.{KeepsFiles, io_paths};
 ghost use Rattle.folders.specs.FileSystem.{Opens, ReadsFile};
 ghost use Rattle.machine.specs.Session.{session_or_refusal};
@@ -11,7 +12,7 @@ ghost use Rattle.loading.specs.Loading.{IsLoadedFrom, IsScriptAt, IsScriptOf, Is
 use crate::fault::LoadFault;
 use crate::typed::typed_script;
 use command_words::SessionWords;
-use folders::{FileSystem, read_folders};
+use folders::{FileSystem, Listing, read_folders};
 use hostfiles::HostFiles;
 use machine::{PROGRAM_LIMIT, SCRIPT_LIMIT, Session};
 use std::alloc::Global;
@@ -132,6 +133,15 @@ fn session_of<'a>(
     }
 }
 
+/// A session that was loaded.
+#[derive(Drop)]
+pub struct Loaded {
+    /// The session.
+    pub session: Session,
+    /// The names of its host files in the folder of each drive, if it has one.
+    pub listings: [Option<Listing>; 4],
+}
+
 /// Loads the session that the words describe: reads the program, the folders of the drives A to D and the script, in this order. A
 /// script that is given as text is not read.
 ///
@@ -142,15 +152,22 @@ fn session_of<'a>(
 pub fn load<'a, S: FileSystem>(
     system: &mut S,
     words: &SessionWords<'a>,
-) -> Result<Session, LoadFault<'a>>
-    ensures session { IfOk result (IsLoadedFrom (S.files system.old) words.now) }
+) -> Result<Loaded, LoadFault<'a>>
+    ensures session { IfOk result
+        (λ loaded. IsLoadedFrom (S.files system.old) words.now loaded.session) }
+    ensures names { IfOk result
+        (λ loaded. AreListings (S.files system.old) words.now.files loaded.listings) }
     ensures fault { IfErr result (FailsToLoad (S.files system.old) words.now) }
     ensures unchanged { KeepsFiles load_paths result (S.files system.old) (S.files system.new) }
 {
     let tail = tail_of(system.alloc(), words)?;
     let typed = typed_script(system.alloc(), words.typed)?;
     let program = program_at(system, words.program)?;
-    let files = read_folders(system, &words.files)?;
+    let read = read_folders(system, &words.files)?;
     let script = script_of(system, words, typed)?;
-    session_of(program, tail, files, script, words.limit)
+    let session = session_of(program, tail, read.files, script, words.limit)?;
+    Ok(Loaded {
+        session,
+        listings: read.listings,
+    })
 }

@@ -1,4 +1,6 @@
 pub mod TextLemmas
 pub mod SignLemmas
 pub mod ReadingLemmas
-mod RunRuleLemmas
+pub mod NamePaths
+pub mod RunPaths
+pub mod PlacePaths

@@ -11,17 +11,15 @@ use Rattle.folders.specs.FileSystem.{Path}
 use Rattle.folders.specs.FolderNames.{folder_name, path_text}
 use Rattle.hostfiles.specs.Hosts.{Host}
 use Rattle.std.specs.Char.{to_ascii_lowercase}
-use Rattle.make_rules.specs.Carried.{ends_with_meaning, fits_call, has_home, has_meaning, has_meaning_in_call, has_meaning_last, is_carried, is_own_target, without_dot}
+use Rattle.make_rules.specs.Carried.{as_read, ends_with_meaning, fits_call, has_home, has_meaning, has_meaning_in_call, has_meaning_last, is_carried, is_own_target}
 use Rattle.make_rules.specs.Escapes.{backslashes, escaped, prerequisite}
 use Rattle.make_rules.specs.Files.{drive_of, in_call_part, is_absent, is_target, path_in_call, paths_in_call}
-use Rattle.make_rules.specs.declared.drives.DriveFolder.{DriveFolder}
+use Rattle.folders.specs.declared.drive_folder.DriveFolder.{DriveFolder}
 use Rattle.make_rules.specs.Reading.{ReadsRule, Sign, Named, Mark, Backslashes, after, after_blanks, before, between_blanks, names, signs, signs_of, value_of, with_name}
 use Rattle.std.specs.FinMap.{keys}
 use Rattle.first_looks.specs.FirstLooks.{FirstLooksView}
 use Rattle.machine.specs.Inputs.{Session}
-use Rattle.make_rules.specs.Paths.{ArePathsOf, paths_with}
 use Rattle.make_rules.specs.Rule.{IsReadByMake, all_paths, call, missing_paths, needed_paths, rule_line, targets_text}
-use Rattle.make_rules.specs.declared.rule.Paths.{Paths}
 use Rattle.make_rules.proofs.SignLemmas.{AllInCall, AllPlain, arguments_signs, ends_plainly, path_signs, prerequisite_signs}
 
 and_true : (x y : Bool) → (x && y) ≡ true → (x ≡ true) × (y ≡ true)
@@ -34,7 +32,7 @@ not_true true h = absurd (false≢true h)
 
 -- ---- a path that a rule can have
 
-last_of : (b c : ℕ) (cs : Path) → slice_get (b ∷ c ∷ cs) (length (b ∷ c ∷ cs) - 1) ≡ slice_get (c ∷ cs) (length (c ∷ cs) - 1)
+pub last_of : (b c : ℕ) (cs : Path) → slice_get (b ∷ c ∷ cs) (length (b ∷ c ∷ cs) - 1) ≡ slice_get (c ∷ cs) (length (c ∷ cs) - 1)
 last_of b c cs =
     let first : length (b ∷ c ∷ cs) - 1 ≡ suc (length cs) = omega arith in
     let second : length cs ≡ length (c ∷ cs) - 1 = omega arith in
@@ -59,9 +57,9 @@ unfolding is_carried
 plain_path [] h = absurd (false≢true h)
 plain_path (b ∷ bs) h =
     let p = b ∷ bs in
-    let one = and_true (nat_lt 0 (length p)) (not (list_any has_meaning p) && (not (ends_with_meaning p) && (not (has_home (without_dot p)) && not (is_own_target p)))) h in
-    let two = and_true (not (list_any has_meaning p)) (not (ends_with_meaning p) && (not (has_home (without_dot p)) && not (is_own_target p))) one.1 in
-    let three = and_true (not (ends_with_meaning p)) (not (has_home (without_dot p)) && not (is_own_target p)) two.1 in
+    let one = and_true (nat_lt 0 (length p)) (not (list_any has_meaning p) && (not (ends_with_meaning p) && (not (has_home (as_read p)) && not (is_own_target (as_read p))))) h in
+    let two = and_true (not (list_any has_meaning p)) (not (ends_with_meaning p) && (not (has_home (as_read p)) && not (is_own_target (as_read p)))) one.1 in
+    let three = and_true (not (ends_with_meaning p)) (not (has_home (as_read p)) && not (is_own_target (as_read p))) two.1 in
     record {
       named = one.0;
       plain = not_true (list_any has_meaning p) two.0;
@@ -247,7 +245,8 @@ all_fit targets host drives (k ∷ ks) =
 -- ---- the rule
 
 module _ (targets : List Path) (w : SessionWords) (drives : List (Option DriveFolder)) (s : Session) (t : FirstLooksView) where
-  of_all : list_all is_carried (all_paths targets w drives s t) ≡ true → IsReadByMake targets w drives s t
+  -- If a rule can have all paths, make reads the rule as its definition says.
+  pub of_all : list_all is_carried (all_paths targets w drives s t) ≡ true → IsReadByMake targets w drives s t
   of_all carried =
       let needs = needed_paths targets w drives s t in
       let missing = missing_paths targets drives s t in
@@ -258,7 +257,3 @@ module _ (targets : List Path) (w : SessionWords) (drives : List (Option DriveFo
         first = λ exists. reads_line exists targets needs missing two.0 two.1 one.1 (all_fit targets s.files drives (keys t.files.has));
         others = λ exists path h. reads_line exists (path ∷ []) [] [] (ap (λ b. b && true) h) refl refl refl;
       }
-
-  pub read_by_make : (paths : Paths) → ArePathsOf targets w drives s t paths → list_all is_carried (paths_with targets paths) ≡ true → IsReadByMake targets w drives s t
-  read_by_make paths are h =
-      of_all (rw (are.program, are.others, are.missing) at h)

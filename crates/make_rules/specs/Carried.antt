@@ -1,5 +1,5 @@
 -- The paths that a rule can have. (GNU make 4.3: no escape keeps the others from another meaning, as a target or as a prerequisite.)
-use Rattle.std.specs.Prelude.{ℕ, ◌-◌, ◌==◌, ◌&&◌, ◌||◌, not, Bool, false, if◌then◌else◌, nat_le, nat_lt, List, [], ◌∷◌, slice_get, length}
+use Rattle.std.specs.Prelude.{ℕ, ◌-◌, ◌==◌, ◌&&◌, ◌||◌, not, Bool, true, false, if◌then◌else◌, codes, nat_le, nat_lt, List, [], ◌∷◌, slice_get, length}
 use Rattle.std.specs.List.{list_all, list_any}
 use Rattle.std.specs.Option.{option_map_or}
 use Rattle.std.specs.Char.{is_ascii_uppercase}
@@ -14,14 +14,21 @@ has_meaning b = (nat_le 9 b && nat_le b 13) || b == 37 || b == 42 || b == 58 || 
 abbrev pub has_meaning_last : ℕ → Bool
 has_meaning_last b = b == 32 || b == 38 || b == 41 || b == 92
 
-abbrev pub without_slashes : List ℕ → List ℕ
-without_slashes [] = []
-without_slashes (b ∷ bs) = if b == 47 then without_slashes bs else b ∷ bs
+-- The first byte is a `/`, and others come after it.
+abbrev pub has_slash : List ℕ → Bool
+has_slash (b ∷ c ∷ bs) = b == 47
+has_slash bytes = false
 
--- A path without a leading `./` and the slashes after it, as make takes it.
-abbrev pub without_dot : Path → Path
-without_dot (b ∷ c ∷ d ∷ bs) = if b == 46 && c == 47 then without_slashes (d ∷ bs) else b ∷ c ∷ d ∷ bs
-without_dot path = path
+-- A path or, after a `./`, the rest of it, as make reads it: without each leading `./` and the slashes after it; if nothing else is left,
+-- it is `./`.
+abbrev pub rest_read : Bool → Path → Path
+rest_read true [] = codes "./"
+rest_read false [] = []
+rest_read after (b ∷ bs) = if (after && b == 47) || (b == 46 && has_slash bs) then rest_read true bs else b ∷ bs
+
+-- A path as make reads it.
+abbrev pub as_read : Path → Path
+as_read path = rest_read false path
 
 -- The first byte is `~`, as of a home folder.
 abbrev pub has_home : List ℕ → Bool
@@ -45,7 +52,7 @@ ends_with_meaning path = option_map_or has_meaning_last (slice_get path (length 
 unfoldable pub is_carried : Path → Bool
 is_carried path =
     nat_lt 0 (length path)
-    && (not (list_any has_meaning path) && (not (ends_with_meaning path) && (not (has_home (without_dot path)) && not (is_own_target path))))
+    && (not (list_any has_meaning path) && (not (ends_with_meaning path) && (not (has_home (as_read path)) && not (is_own_target (as_read path)))))
 
 -- A byte that a path within a call of a function of make cannot have: a blank, `#`, a parenthesis, a comma or `\`.
 abbrev pub has_meaning_in_call : ℕ → Bool

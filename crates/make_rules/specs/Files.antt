@@ -11,12 +11,12 @@ use Rattle.first_looks.specs.RecordSteps.{steps_of}
 use Rattle.first_looks.specs.declared.file_steps.FileSteps.{FileSteps}
 use Rattle.folders.specs.FileSystem.{Path}
 use Rattle.folders.specs.FolderNames.{folder_name, path_text}
-use Rattle.make_rules.specs.Carried.{fits_call, without_dot}
-use Rattle.make_rules.specs.declared.drives.DriveFolder.{DriveFolder}
+use Rattle.make_rules.specs.Carried.{as_read, fits_call}
+use Rattle.folders.specs.declared.drive_folder.DriveFolder.{DriveFolder}
 
 -- The directory of a drive was asked for.
 abbrev pub is_searched : FileSteps → DriveFolder → Bool
-is_searched asked d = is_some (step_of_drive asked.directories (drive_number d.listing.drive))
+is_searched asked d = is_some (step_of_drive asked.directories (drive_number d.listing.now.drive))
 
 -- It was asked whether the file of this key is there, for its length, or for one of its records.
 abbrev pub is_asked_about : FileSteps → Key → Bool
@@ -32,12 +32,12 @@ name_found None = []
 name_found (Some name) = string_bytes name
 
 abbrev pub file_part : FileSteps → DriveFolder → Key → List Path
-file_part asked d key = part_of_file asked d (name_found (get d.listing.files key)) key
+file_part asked d key = part_of_file asked d (name_found (get d.listing.now.files key)) key
 
 -- The files in the folder of a drive that were asked about, in the order of their keys.
 abbrev pub drive_files : FileSteps → Option DriveFolder → List Path
 drive_files asked None = []
-drive_files asked (Some d) = flat_map (file_part asked d) (keys d.listing.files)
+drive_files asked (Some d) = flat_map (file_part asked d) (keys d.listing.now.files)
 
 abbrev pub all_files : FileSteps → List (Option DriveFolder) → List Path
 all_files asked drives = flat_map (drive_files asked) drives
@@ -62,7 +62,7 @@ is_absent host key = is_sayable key && not (contains_key host key)
 
 -- Whether make takes a path for one of the targets.
 abbrev pub is_target : List Path → Path → Bool
-is_target targets path = list_any (λ target. bytes_eq (without_dot path) (without_dot target)) targets
+is_target targets path = list_any (λ target. bytes_eq (as_read path) (as_read target)) targets
 
 abbrev pub is_other : List Path → Path → Bool
 is_other targets path = not (is_target targets path)

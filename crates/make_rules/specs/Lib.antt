@@ -1,10 +1,8 @@
 pub mod Escapes
 pub mod Carried
 pub mod Reading
-pub mod Drives
 pub mod Files
 pub mod Rule
-pub mod Faults
 pub mod Paths
 pub mod RunRules
 pub mod RefusedPaths

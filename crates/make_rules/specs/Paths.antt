@@ -5,18 +5,13 @@ use Rattle.first_looks.specs.FirstLooks.{FirstLooksView}
 use Rattle.folders.specs.FileSystem.{Path}
 use Rattle.machine.specs.Inputs.{Session}
 use Rattle.make_rules.specs.Rule.{missing_paths, other_paths, program_part, rule_line}
-use Rattle.make_rules.specs.declared.drives.DriveFolder.{DriveFolder}
+use Rattle.folders.specs.declared.drive_folder.DriveFolder.{DriveFolder}
 use Rattle.make_rules.specs.declared.rule.Paths.{Paths}
 
 pub record ArePathsOf (targets : List Path) (w : SessionWords) (drives : List (Option DriveFolder)) (s : Session) (t : FirstLooksView) (paths : Paths) : Type 0 where
   pub program : map string_bytes paths.program.items ≡ program_part targets w t
   pub others : map string_bytes paths.others.items ≡ other_paths targets w drives s t
   pub missing : map string_bytes paths.missing.items ≡ missing_paths targets drives s t
-
--- The targets and all paths.
-abbrev pub paths_with : List Path → Paths → List Path
-paths_with targets paths =
-    targets ++ (map string_bytes paths.program.items ++ map string_bytes paths.others.items) ++ map string_bytes paths.missing.items
 
 -- The line of the rule.
 abbrev pub line_of : List Path → Paths → List ℕ

@@ -96,7 +96,7 @@ after m (Mark b ∷ s) = if b == m then s else after m s
 abbrev pub signs_of : (Path → Bool) → List ℕ → List Sign
 signs_of exists line = before 35 (signs exists (Backslashes 0) line)
 
--- If these files exist, make takes a line as a rule for these targets with these prerequisites.
+-- If these files exist, make takes a line as a rule for these targets with these prerequisites. Each of them is the file that `as_read` says.
 pub record ReadsRule (exists : Path → Bool) (line : List ℕ) (targets prerequisites : List Path) : Type 0 where
   pub targets_are : names [] (before 58 (signs_of exists line)) ≡ targets
   pub prerequisites_are : names [] (after 58 (signs_of exists line)) ≡ prerequisites

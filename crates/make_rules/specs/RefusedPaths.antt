@@ -6,8 +6,9 @@ use Rattle.command_words.specs.declared.words.SessionWords.{SessionWords}
 use Rattle.folders.specs.FileSystem.{Path}
 use Rattle.make_rules.specs.Carried.{is_carried}
 use Rattle.make_rules.specs.Files.{folder_path}
+use Rattle.folders.specs.declared.drive_folder.DriveFolder.{DriveFolder}
 use Rattle.make_rules.specs.declared.fault.RuleFault.{RuleFault}
-use Rattle.make_rules.specs.declared.fault.RuleFault.TheVariants.{RulePath, Folders, OutOfMemory}
+use Rattle.make_rules.specs.declared.fault.RuleFault.TheVariants.{RulePath, OutOfMemory}
 
 -- Whether a rule cannot have the path of a file, or a folder, if there is one.
 abbrev pub is_refused : Option (Bor (List ℕ)) → Bool
@@ -18,6 +19,11 @@ abbrev pub is_refused_folder : Option (Bor (List ℕ)) → Bool
 is_refused_folder None = false
 is_refused_folder (Some folder) = not (is_carried (folder_path folder.now))
 
+-- The same for the folder of a drive whose files are listed.
+abbrev pub is_refused_drive : Option DriveFolder → Bool
+is_refused_drive None = false
+is_refused_drive (Some d) = not (is_carried (folder_path d.folder.now))
+
 -- The target or the file of the rule, the program and the script.
 abbrev pub file_paths : SessionWords → Bor (List ℕ) → List (Option (Bor (List ℕ)))
 file_paths w path = Some path ∷ Some w.program ∷ w.console ∷ []
@@ -27,10 +33,13 @@ abbrev pub refuses_rule : SessionWords → Bor (List ℕ) → List (Option (Bor 
 refuses_rule w path written =
     list_any is_refused (file_paths w path) || list_any is_refused_folder w.files || list_any is_refused_folder written
 
+-- Whether a rule cannot have the program, the script or a folder that is read.
+abbrev pub refuses_words : SessionWords → Bool
+refuses_words w = list_any is_refused (Some w.program ∷ w.console ∷ []) || list_any is_refused_folder w.files
+
 -- An error for a path: that a rule cannot have it, or that there is no memory for it.
 abbrev pub IsRefused : Path → RuleFault → Type 0
 IsRefused word (RulePath path) = string_bytes path ≡ word
-IsRefused word (Folders f) = ⊥
 IsRefused word OutOfMemory = Unit {0}
 
 -- An error for such a path.

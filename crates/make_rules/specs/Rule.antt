@@ -16,7 +16,7 @@ use Rattle.make_rules.specs.Carried.{is_carried}
 use Rattle.make_rules.specs.Escapes.{argument, escaped, prerequisite}
 use Rattle.make_rules.specs.Files.{absent_lines, all_absent_folders, all_files, all_folders, all_in_call, is_other}
 use Rattle.make_rules.specs.Reading.{ReadsRule}
-use Rattle.make_rules.specs.declared.drives.DriveFolder.{DriveFolder}
+use Rattle.folders.specs.declared.drive_folder.DriveFolder.{DriveFolder}
 
 -- ---- what a target depends on
 

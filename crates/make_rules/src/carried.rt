@@ -43,34 +43,27 @@ fn ends_with_meaning(path: &[u8]) -> bool
     }
 }
 
-// Returns a path without the slashes with which it begins.
-fn without_slashes(path: &[u8]) -> &[u8]
-    ensures { result.now ≡ texts.without_slashes path.now }
+/// Returns a path as make reads it: without each leading `./` and the slashes after it, but `./` if nothing else is left.
+pub fn as_read(path: &[u8]) -> &[u8]
+    ensures { result.now ≡ texts.as_read path.now }
 {
+    let mut after = false;
     for index in 0..path.len() {
-        if path[index] != b'/' {
+        let rest = &path[index + 1..];
+        let is_dot = path[index] == b'.' && rest.len() > 1 && rest[0] == b'/';
+        if !(after && path[index] == b'/' || is_dot) {
             return &path[index..];
         }
+        after = true;
     }
-    &[]
+    if after { b"./" } else { &[] }
 }
 
-/// Returns a path without a leading `./` and the slashes after it, as make takes it.
-pub fn without_dot(path: &[u8]) -> &[u8]
-    ensures { result.now ≡ texts.without_dot path.now }
-{
-    if path.len() > 2 && path[0] == b'.' && path[1] == b'/' {
-        without_slashes(&path[2..])
-    } else {
-        path
-    }
-}
-
-// Returns whether make takes a path for one in a home folder.
+// Returns whether a path that make reads is in a home folder.
 fn has_home(path: &[u8]) -> bool
-    ensures { result ≡ texts.has_home (texts.without_dot path.now) }
+    ensures { result ≡ texts.has_home path.now }
 {
-    match without_dot(path).first() {
+    match path.first() {
         Some(byte) => *byte == b'~',
         None => false,
     }
@@ -103,8 +96,8 @@ pub fn is_carried(path: &[u8]) -> bool
     !path.is_empty()
         && !any_has_meaning(path)
         && !ends_with_meaning(path)
-        && !has_home(path)
-        && !is_own_target(path)
+        && !has_home(as_read(path))
+        && !is_own_target(as_read(path))
 }
 
 // Returns whether a byte has a meaning within a call of a function of make.

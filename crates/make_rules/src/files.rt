@@ -3,9 +3,8 @@
 ghost use Rattle.std.specs.Prelude.{◌≡◌, ◌++◌, OnOk, map, string_bytes};
 ghost use Rattle.make_rules.specs.Files as texts;
 
-use crate::drives::DriveFolder;
 use first_looks::FileSteps;
-use folders::path_in;
+use folders::{DriveFolder, path_in};
 use hostfiles::Key;
 use std::alloc::{AllocError, Global};
 

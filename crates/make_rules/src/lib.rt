@@ -1,14 +1,12 @@
 //! The rule for make with the files on which the run of a session depends.
 //!
 //! - `carried`, `escapes`: the paths that a rule can have, and how it has them
-//! - `drives`: the folders of the drives, with the names of their files
 //! - `files`, `missing`: the host files on which a run depends; the ones that are not there
 //! - `rule`, `fault`: the rule; why there is none
 //! - `refused_paths`: paths among the words of a command line that a rule cannot have
 #![tactic(auto)]
 
 mod carried;
-mod drives;
 mod escapes;
 mod fault;
 mod files;

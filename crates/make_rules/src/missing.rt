@@ -3,10 +3,9 @@
 ghost use Rattle.std.specs.Prelude.{◌≡◌, ◌++◌, true, false, IfOk, IfSome, IfNone, OnOk, map, string_bytes};
 ghost use Rattle.make_rules.specs.Files as texts;
 
-use crate::carried::{fits_call, without_dot};
-use crate::drives::DriveFolder;
+use crate::carried::{as_read, fits_call};
 use first_looks::FileSteps;
-use folders::{file_name, path_in};
+use folders::{DriveFolder, file_name, path_in};
 use hostfiles::{HostFiles, Key, Name};
 use std::alloc::{AllocError, Global};
 
@@ -15,7 +14,7 @@ pub fn is_target(path: &[u8], targets: &[String]) -> bool
     ensures { result ≡ texts.is_target (map string_bytes targets.now) path.now }
 {
     for target in targets {
-        if without_dot(path) == without_dot(target.as_bytes()) {
+        if as_read(path) == as_read(target.as_bytes()) {
             return true;
         }
     }

@@ -1,27 +1,23 @@
 // The rule for make.
 
-ghost use Rattle.std.specs.Prelude.{◌≡◌, ◌++◌, IfErr, IfNone, IfOk, IfSome, OnOk, filter, map, string_bytes, true, false};
-ghost use Rattle.std.specs.List.{Contains, flat_map, list_all};
+ghost use Rattle.std.specs.Prelude.{◌≡◌, ◌++◌, IfOk, OnOk, filter, map, string_bytes, true, false};
+ghost use Rattle.std.specs.List.{flat_map, list_all, list_any};
 ghost use Rattle.dependencies.specs.Dependencies.{AreDependencies};
 ghost use Rattle.dependencies.specs.Rows.{rows_from};
-ghost use Rattle.folders.specs.Failures.{KeepsFiles};
 ghost use Rattle.make_rules.specs.Carried.{is_carried};
 ghost use Rattle.make_rules.specs.Rule as texts;
 ghost use Rattle.report_lines.specs.FirstLines.{line};
-ghost use Rattle.make_rules.specs.Faults.{RefusesRule, rule_paths};
 ghost use Rattle.make_rules.specs.Files.{is_other};
-ghost use Rattle.make_rules.specs.RunRules.{BreaksRule, IsRule};
-ghost use Rattle.make_rules.specs.Paths.{ArePathsOf, line_of, paths_with};
+ghost use Rattle.make_rules.specs.RunRules.{IsRule};
+ghost use Rattle.make_rules.specs.Paths.{ArePathsOf, line_of};
+ghost use Rattle.make_rules.specs.RefusedPaths.{is_refused_drive, refuses_words};
 
-use crate::carried::is_carried;
-use crate::drives::{DriveFolder, list_folders};
 use crate::escapes::{push_arguments, push_escaped, push_prerequisites};
-use crate::fault::RuleFault;
 use crate::files::{push_files, push_folders};
 use crate::missing::{is_target, push_absent_folders, push_absent_lines, push_missing_files};
 use command_words::SessionWords;
 use dependencies::{Joining, StepTable, next_row};
-use folders::FileSystem;
+use folders::{DriveFolder, Listing};
 use machine::{Cause, PROGRAM_START, WholeRun};
 use report_lines::stop_line;
 use std::alloc::{AllocError, Global};
@@ -99,40 +95,6 @@ fn paths_of(
     })
 }
 
-// Returns the first of these paths that no rule can have.
-fn refused_among(paths: &[String]) -> Option<&str>
-    ensures some { IfSome result (λ path.
-        Contains (map string_bytes paths.now) path.now × (is_carried path.now ≡ false)) }
-    ensures none { IfNone result (list_all is_carried (map string_bytes paths.now) ≡ true) }
-{
-    for path in paths {
-        if !is_carried(path.as_bytes()) {
-            return Some(path.as_str());
-        }
-    }
-    None
-}
-
-// Returns a path that no rule can have, among the targets and those on which they depend.
-fn refused_path<'a>(targets: &'a [String], paths: &'a Paths) -> Option<&'a str>
-    ensures some { IfSome result (λ path.
-        Contains (paths_with (map string_bytes targets.now) paths.now) path.now
-        × (is_carried path.now ≡ false)) }
-    ensures none { IfNone result
-        (list_all is_carried (paths_with (map string_bytes targets.now) paths.now) ≡ true) }
-{
-    if let Some(path) = refused_among(targets) {
-        return Some(path);
-    }
-    if let Some(path) = refused_among(paths.program.as_slice()) {
-        return Some(path);
-    }
-    match refused_among(paths.others.as_slice()) {
-        Some(path) => Some(path),
-        None => refused_among(paths.missing.as_slice()),
-    }
-}
-
 // Appends a call that make replaces by those of the paths that exist.
 fn push_call(text: &mut Vec<u8>, paths: &[String]) -> Result<(), AllocError>
     ensures { OnOk result (text.new.items ≡ text.old.items ++ texts.call (map string_bytes paths.now)) }
@@ -206,25 +168,23 @@ fn push_stop_comment(text: &mut Vec<u8>, cause: Cause) -> Result<(), AllocError>
 ///
 /// # Errors
 ///
-/// Returns `Err` if a rule cannot have one of the paths, or an allocation fails.
+/// Returns `Err` if an allocation fails.
 fn make_rule(
     alloc: Global,
     targets: &[String],
     words: &SessionWords<'_>,
     drives: &[Option<DriveFolder<'_>>; 4],
     run: &WholeRun<'_>,
-) -> Result<Vec<u8>, RuleFault>
+) -> Result<Vec<u8>, AllocError>
+    requires targets { list_all is_carried (map string_bytes targets.now) ≡ true }
+    requires words { refuses_words words.now ≡ false }
+    requires drives { list_any is_refused_drive drives.now ≡ false }
     ensures text { IfOk result (λ text. text.items ≡ texts.rule_text (map string_bytes targets.now)
         words.now drives.now run.now.session.now run.now.looks run.now.cause) }
     ensures read { IfOk result (λ _. texts.IsReadByMake (map string_bytes targets.now)
         words.now drives.now run.now.session.now run.now.looks) }
-    ensures fault { IfErr result (RefusesRule (map string_bytes targets.now)
-        words.now drives.now run.now.session.now run.now.looks) }
 {
     let paths = paths_of(alloc, targets, words, drives, run)?;
-    if let Some(path) = refused_path(targets, &paths) {
-        return Err(RuleFault::RulePath(String::from_str(alloc, path)?));
-    }
     let mut text = Vec::new(alloc);
     push_line(&mut text, targets, &paths)?;
     push_empty_rules(&mut text, paths.others.as_slice())?;
@@ -239,25 +199,25 @@ fn make_rule(
     Ok(text)
 }
 
-/// Returns the rule for make with these targets and the files on which the run of a session depends, by their names in the folders,
-/// which are listed for it.
+/// Returns the rule for make with these targets and the files on which the run of a session depends, by their names in the folders when
+/// the session was loaded. `check_paths` allowed the words, and a rule can have the targets.
 ///
 /// # Errors
 ///
-/// Returns `Err` if a folder cannot be listed, a rule cannot have one of the paths, or an allocation fails.
-pub fn rule_of_run<S: FileSystem>(
-    system: &mut S,
+/// Returns `Err` if an allocation fails.
+pub fn rule_of_run(
+    alloc: Global,
     targets: &[String],
     words: &SessionWords<'_>,
+    listings: &[Option<Listing>; 4],
     run: &WholeRun<'_>,
-) -> Result<Vec<u8>, RuleFault>
-    requires { AreDependencies run.now.session.now run.now.looks run.now.steps run.now.cause }
-    ensures rule { IfOk result (λ text.
-        IsRule words.now (map string_bytes targets.now) (S.files system.old) run.now.session.now text.items) }
-    ensures fault { IfErr result
-        (BreaksRule words.now (map string_bytes targets.now) (S.files system.old) run.now.session.now) }
-    ensures unchanged { KeepsFiles rule_paths result (S.files system.old) (S.files system.new) }
+) -> Result<Vec<u8>, AllocError>
+    requires targets { list_all is_carried (map string_bytes targets.now) ≡ true }
+    requires words { refuses_words words.now ≡ false }
+    requires run { AreDependencies run.now.session.now run.now.looks run.now.steps run.now.cause }
+    ensures { IfOk result (λ text.
+        IsRule words.now (map string_bytes targets.now) listings.now run.now.session.now text.items) }
 {
-    let drives = list_folders(system, &words.files)?;
-    make_rule(system.alloc(), targets, words, &drives, run)
+    let drives = DriveFolder::with_names(&words.files, listings);
+    make_rule(alloc, targets, words, &drives, run)
 }

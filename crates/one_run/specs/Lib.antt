@@ -1,5 +1,3 @@
 pub mod World
-pub mod Faults
-pub mod Updates
-pub mod RunsOnce
-pub mod WrittenPaths
+pub mod Planned
+pub mod RunTexts

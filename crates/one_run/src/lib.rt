@@ -1,19 +1,17 @@
-//! One run of a session, without edits: its console text, its changed files and its stop.
+//! One run of a session, without edits: its console text, what is to be done with its changed files, and its stop.
 //!
 //! - `running`: the run, whose console text is written while it runs
-//! - `reporting`: the run and its report
-//! - `updating`, `target_paths`: writing and removing the changed files; the paths at which they are written
-//! - `fault`: why a run was not reported in full
+//! - `planning`: what is to be done with its changed files
+//! - `reporting`: its stop, and what became of the files
+//! - `fault`: why its console text was not written in full
 #![tactic(auto)]
 
 mod fault;
+mod planning;
 mod reporting;
 mod running;
-mod target_paths;
-mod updating;
 
 pub use fault::RunFault;
-pub use reporting::{report_stop, run_once, stop_status};
+pub use planning::{Changes, Turn};
+pub use reporting::{report_stop, stop_status};
 pub use running::run_to_end;
-pub use target_paths::written_paths;
-pub use updating::update_files;

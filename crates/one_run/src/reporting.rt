@@ -1,19 +1,17 @@
-// One run of a session, without edits.
+// How a run ended, and what became of its files.
 
-ghost use Rattle.std.specs.Prelude.{◌≡◌, IfOk, IfErr, OnErr};
-ghost use Rattle.folders.specs.Failures.{ReportsPaths};
+ghost use Rattle.std.specs.Prelude.{◌≡◌};
+ghost use Rattle.hostfiles.specs.Files.{files};
+ghost use Rattle.hostfiles.specs.FileView.{is_view_there};
 ghost use Rattle.streams.specs.Pushing.{more};
 ghost use Rattle.streams.specs.Streams.{WritesOrFails, WritesText};
-ghost use Rattle.one_run.specs.Faults.{run_paths};
-ghost use Rattle.one_run.specs.RunsOnce.{BreaksRun, RunsOnce, stop_status, stop_text};
-ghost use Rattle.one_run.specs.World.{world};
+ghost use Rattle.one_run.specs.RunTexts.{stop_lines, stop_status, unplaced_line, unplaced_lines};
 
-use crate::fault::RunFault;
-use crate::running::run_to_end;
-use crate::updating::update_files;
-use folders::{FileSystem, Places};
-use machine::{Cause, Noting, Session, WholeRun};
-use report_lines::{FileFilter, push_changed_files, stop_line};
+use crate::planning::Changes;
+use folders::Places;
+use hostfiles::{ChangedFile, Name, next_changed};
+use machine::Cause;
+use report_lines::{FileFilter, push_changed_files, push_named, stop_line};
 use streams::{Failed, Text, TextOver, Writer};
 
 /// Returns the exit status for a run that stopped by this cause.
@@ -33,62 +31,70 @@ pub fn stop_status(cause: Cause) -> u8
     }
 }
 
-// Appends the line of the stop of a run, and then the lines of the changed files that are gone.
-fn push_stop<X: Text>(text: &mut X, run: &WholeRun<'_>)
-    ensures { X.pushed text.new ≡ more (X.pushed text.old) (stop_text run.now.session.now) }
+// Appends the line of a changed file that is there and has no place.
+fn push_if_unplaced<X: Text>(text: &mut X, places: &Places<'_>, changed: &ChangedFile<'_>)
+    ensures { X.pushed text.new ≡ more (X.pushed text.old)
+        (unplaced_line places.now (is_view_there changed.now.file) changed.now.name) }
 {
-    text.push(stop_line(run.cause()).as_bytes());
-    push_changed_files(
-        text,
-        FileFilter::GoneOnly,
-        run.session.files(),
-        run.journal(),
-    );
+    if changed.file.is_there() && !places.has_place(&changed.name) {
+        push_named(text, b"not written ", &changed.name);
+        text.push(b"\n");
+    }
 }
 
-// Writes the line of the stop of a run, and then the lines of the changed files that are gone.
-fn write_stop<E: Writer>(run: &WholeRun<'_>, err: &mut E) -> Result<(), Failed>
-    ensures { WritesText (E.output err.old) (E.output err.new) (stop_text run.now.session.now) result }
+// Appends the lines of the changed files that are there and have no place.
+fn push_unplaced<X: Text>(text: &mut X, changes: &Changes<'_>)
+    ensures { X.pushed text.new ≡ more (X.pushed text.old) (unplaced_lines changes.now.places
+        changes.now.host.now (files changes.now.host.now changes.now.journal.now.entries)) }
+{
+    let mut after: Option<Name> = None;
+    while let Some(changed) = next_changed(changes.host, changes.journal, after.as_ref()) {
+        push_if_unplaced(text, &changes.places, &changed);
+        after = Some(changed.name);
+    }
+}
+
+// Appends the line of the stop of a run, a line if something was to be done on a disk and the disks were left as they were, the lines of the
+// changed files that are gone, and, if there are disks, of the ones that were not written.
+fn push_stop<X: Text>(text: &mut X, cause: Cause, changes: &Changes<'_>, changes_disks: bool)
+    ensures { X.pushed text.new ≡ more (X.pushed text.old)
+        (stop_lines changes.now.places changes_disks cause changes.now.host.now
+        (files changes.now.host.now changes.now.journal.now.entries)) }
+{
+    text.push(stop_line(cause).as_bytes());
+    if !changes_disks && changes.changes_disk() {
+        text.push(b"disk unchanged\n");
+    }
+    push_changed_files(text, FileFilter::GoneOnly, changes.host, changes.journal);
+    if changes.places.has_disks() {
+        push_unplaced(text, changes);
+    }
+}
+
+// Writes these lines.
+fn write_stop<E: Writer>(
+    cause: Cause,
+    changes: &Changes<'_>,
+    changes_disks: bool,
+    err: &mut E,
+) -> Result<(), Failed>
+    ensures { WritesText (E.output err.old) (E.output err.new)
+        (stop_lines changes.now.places changes_disks cause changes.now.host.now
+        (files changes.now.host.now changes.now.journal.now.entries)) result }
 {
     let mut text = TextOver::new(err);
-    push_stop(&mut text, run);
+    push_stop(&mut text, cause, changes, changes_disks);
     text.flush();
     text.finish()
 }
 
-/// Reports on standard error why the run stopped, and which of the changed files are gone. A failure of the writer ends this, and is
+/// Reports on standard error why a run stopped, whether the disks were left as they were, which of the changed files are gone, and which
+/// were not written. The changes have the places of the disks also if these were left as they were. A failure of the writer ends this, and is
 /// ignored.
-pub fn report_stop<E: Writer>(run: &WholeRun<'_>, err: &mut E)
-    ensures { WritesOrFails (E.output err.old) (E.output err.new) (stop_text run.now.session.now) }
+pub fn report_stop<E: Writer>(cause: Cause, changes: &Changes<'_>, changes_disks: bool, err: &mut E)
+    ensures { WritesOrFails (E.output err.old) (E.output err.new)
+        (stop_lines changes.now.places changes_disks cause changes.now.host.now
+        (files changes.now.host.now changes.now.journal.now.entries)) }
 {
-    let _ = write_stop(run, err);
-}
-
-/// Runs a session once. Its console text is written to `out` while it runs. Then each changed file that is there when the run stops is
-/// written at its place, if it has one, and the ones that are gone are removed from their disks. Then `err` gets a line that reports why
-/// the run stopped, and a line for each changed file that is gone. Returns the exit status for the stop.
-///
-/// # Errors
-///
-/// Returns `Err` if writing to `out`, or writing or removing a file fails, or an allocation; nothing is then written to `err`.
-pub fn run_once<S: FileSystem, O: Writer, E: Writer>(
-    system: &mut S,
-    places: &Places,
-    session: Session,
-    out: &mut O,
-    err: &mut E,
-) -> Result<u8, RunFault>
-    ensures done { IfOk result (λ status. RunsOnce places.now session status
-        (world (S.files system.old) (O.output out.old) (E.output err.old))
-        (world (S.files system.new) (O.output out.new) (E.output err.new))) }
-    ensures fault { IfErr result (BreaksRun places.now session
-        (world (S.files system.old) (O.output out.old) (E.output err.old))
-        (world (S.files system.new) (O.output out.new) (E.output err.new))) }
-    ensures unreported { OnErr result (E.output err.new ≡ E.output err.old) }
-    ensures failed { ReportsPaths run_paths result (S.files system.old) (S.files system.new) }
-{
-    let run = run_to_end(system.alloc(), &session, Noting::Nothing, out, err)?;
-    update_files(system, places, run.session.files(), run.journal())?;
-    report_stop(&run, err);
-    Ok(stop_status(run.cause()))
+    let _ = write_stop(cause, changes, changes_disks, err);
 }

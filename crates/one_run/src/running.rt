@@ -6,15 +6,12 @@ ghost use Rattle.machine.specs.Runs.{EndsBy, NotesWholeRun, asked_by};
 ghost use Rattle.machine.specs.declared.noting.Noting.TheVariants.{Looks};
 ghost use Rattle.streams.specs.Pushing.{PushesUnless, more};
 ghost use Rattle.streams.specs.Streams.{WritesWhole};
-ghost use Rattle.one_run.specs.RunsOnce.{BreaksText, console_text};
+ghost use Rattle.one_run.specs.RunTexts.{BreaksText, console_text};
 
 use crate::fault::RunFault;
 use machine::{Cause, Noting, Run, STEP_LIMIT, Session, WholeRun};
 use std::alloc::{AllocError, Global};
-use streams::{Text, TextOver, Writer};
-
-/// After this many steps, the console text that is there is sent.
-const STEPS_UNTIL_TEXT: u64 = 50_000_000;
+use streams::{STEPS_UNTIL_TEXT, Text, TextOver, Writer};
 
 // Pushes and sends the bytes of a console text after its first ones, which were pushed. If there are none, the steps of the run are shown
 // instead. Returns how many bytes are pushed then.
@@ -34,7 +31,7 @@ fn push_more<X: Text, E: Writer>(
         text.push(&console[pushed..]);
         text.flush();
     } else {
-        err.show_steps(steps);
+        err.show_steps(steps, console);
     }
     pushed.max(console.len())
 }
@@ -98,7 +95,7 @@ fn push_console<X: Text, E: Writer>(
     Ok(stop)
 }
 
-/// Runs a session to its end, and writes its console text to `out` while it runs, at the latest after each 50,000,000 steps. While there is
+/// Runs a session to its end, and writes its console text to `out` while it runs, at the latest after each 1,000,000 steps. While there is
 /// no text, `err` shows the steps, if it is a terminal.
 ///
 /// # Errors

@@ -4,7 +4,7 @@ use Rattle.streams.specs.Streams.{Output}
 use Rattle.requests.specs.FaultReports.{ReportsFaultOrMemory, status_of}
 use Rattle.requests.specs.declared.tool.Tool.{Tool}
 use Rattle.requests.specs.declared.fault.Fault.{Fault}
-use Rattle.requests.specs.declared.fault.Fault.TheVariants.{Usage, BadEscape, NotText, CannotRead, CannotWrite, Folders, Refused, Malformed, TooLong, RulePath, OutOfMemory}
+use Rattle.requests.specs.declared.fault.Fault.TheVariants.{Usage, BadEscape, NotText, CannotRead, CannotWrite, DiskUnchanged, Folders, Refused, Malformed, TooLong, RulePath, OutOfMemory}
 
 -- No error has the status 0.
 status_above : (f : Fault) → status_of f ≡ 0 → ⊥
@@ -13,6 +13,7 @@ status_above (BadEscape text) e = cc
 status_above NotText e = cc
 status_above (CannotRead path) e = cc
 status_above CannotWrite e = cc
+status_above DiskUnchanged e = cc
 status_above (Folders f) e = cc
 status_above (Refused n) e = cc
 status_above (Malformed k) e = cc

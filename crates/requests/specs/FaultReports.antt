@@ -10,7 +10,7 @@ use Rattle.loading.specs.declared.fault.LoadFault.TheVariants as load
 use Rattle.one_run.specs.declared.fault.RunFault.{RunFault}
 use Rattle.one_run.specs.declared.fault.RunFault.TheVariants as run
 use Rattle.requests.specs.declared.fault.Fault.{Fault}
-use Rattle.requests.specs.declared.fault.Fault.TheVariants.{Usage, BadEscape, NotText, CannotRead, CannotWrite, Folders, Refused, Malformed, TooLong, RulePath, OutOfMemory}
+use Rattle.requests.specs.declared.fault.Fault.TheVariants.{Usage, BadEscape, NotText, CannotRead, CannotWrite, DiskUnchanged, Folders, Refused, Malformed, TooLong, RulePath, OutOfMemory}
 use Rattle.requests.specs.declared.tool.Tool.{Tool}
 use Rattle.requests.specs.declared.tool.Tool.TheVariants.{Cpmrun, Cpmdeps, Cpmtrace}
 use Rattle.one_run.specs.World.{World}
@@ -31,7 +31,6 @@ of_failure failure.OutOfMemory = OutOfMemory
 
 abbrev pub of_run : RunFault → Fault
 of_run run.CannotWrite = CannotWrite
-of_run (run.Folders f) = Folders f
 of_run run.OutOfMemory = OutOfMemory
 
 -- The path at which the file system failed, if an error reports that a file or a folder could not be read or written.
@@ -57,20 +56,22 @@ name_of Cpmtrace = codes "cpmtrace"
 abbrev pub message_line : Tool → List ℕ → List ℕ
 message_line tool text = name_of tool ++ codes ": " ++ line text
 
--- The end of the message of a bad escape, worded as clap's.
-abbrev pub bad_escape : List ℕ
-bad_escape = line (codes "' for '--typed <TEXT>': unknown escape after a backslash") ++ line [] ++ line (codes "For more information, try '--help'.")
+-- The message for an option with a value that it cannot have, worded as clap's.
+abbrev pub value_text : List ℕ → List ℕ → List ℕ → List ℕ
+value_text value option mistake =
+    codes "error: invalid value '" ++ value ++ codes "' for '" ++ option ++ codes "': " ++ mistake ++ codes "\n\nFor more information, try '--help'.\n"
 
 -- The message of an error: clap's lines for a usage error, and one line for every other.
 abbrev pub message_of : Tool → Fault → List ℕ
 message_of tool (Usage text) = string_bytes text
-message_of tool (BadEscape text) = codes "error: invalid value '" ++ text.now ++ bad_escape
+message_of tool (BadEscape text) = value_text text.now (codes "--typed <TEXT>") (codes "unknown escape after a backslash")
 message_of tool NotText =
     line (codes "error: invalid UTF-8 was detected in one or more arguments") ++ line []
     ++ codes "Usage: " ++ name_of tool ++ line (codes " [OPTIONS] <PROGRAM> [TAIL]") ++ line []
     ++ line (codes "For more information, try '--help'.")
 message_of tool (CannotRead path) = message_line tool (codes "cannot read " ++ path.now)
 message_of tool CannotWrite = message_line tool (codes "cannot write standard output")
+message_of tool DiskUnchanged = message_line tool (codes "cannot write standard output") ++ line (codes "disk unchanged")
 message_of tool (Folders f) = message_line tool (text_of f)
 message_of tool (Refused n) = message_line tool (codes "session refused " ++ decimal n)
 message_of tool (Malformed k) = name_of tool ++ codes ": line " ++ decimal k ++ line (codes " is malformed")

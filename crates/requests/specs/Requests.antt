@@ -1,5 +1,5 @@
 -- The request in the words of a command line. (This project's own.)
-use Rattle.std.specs.Prelude.{◌≡◌, ℕ, List, Result}
+use Rattle.std.specs.Prelude.{◌≡◌, ℕ, List, Result, string_bytes}
 use Rattle.command_words.specs.declared.words.SessionWords.{SessionWords}
 use Rattle.command_words.specs.declared.error_classes.ErrorClass.{ErrorClass}
 use Rattle.command_words.specs.declared.error_classes.ErrorClass.TheVariants as outcome
@@ -24,6 +24,12 @@ abbrev pub FailsToParse : (ErrorClass → Type 0) → Fault → Type 0
 FailsToParse Has (Usage text) = Has outcome.UsageError
 FailsToParse Has OutOfMemory = Unit {0}
 FailsToParse Has fault = ⊥
+
+-- A usage error with this message, or a failed allocation.
+abbrev pub IsUsageError : List ℕ → Fault → Type 0
+IsUsageError message (Usage text) = string_bytes text ≡ message
+IsUsageError message OutOfMemory = Unit {0}
+IsUsageError message fault = ⊥
 
 -- Some text, as help or the version, was written, or a prefix of it if the result is an error.
 abbrev pub WritesSomeText : {T E : Type 0} → Output → Output → Result T E → Type 0

@@ -1,5 +1,5 @@
 ghost use Rattle.std.specs.Prelude.{◌≡◌, IfOk, IfSome, IfNone, string_bytes};
-ghost use Rattle.requests.specs.FaultReports.{ReportsFaultOrMemory};
+ghost use Rattle.requests.specs.FaultReports.{ReportsFaultOrMemory, value_text};
 ghost use Rattle.streams.specs.Streams.{WritesOrFails};
 
 use crate::tool::Tool;
@@ -23,6 +23,8 @@ pub enum Fault<'a> {
     CannotRead(&'a str),
     /// Standard output could not be written.
     CannotWrite,
+    /// The same, in a run with disks, which are as they were.
+    DiskUnchanged,
     /// Folders were not read, or a changed file was not written.
     Folders(folders::Fault),
     /// The session was refused, with this number.
@@ -77,9 +79,19 @@ impl From<RunFault> for Fault<'_> {
     fn from(fault: RunFault) -> Self {
         match fault {
             RunFault::CannotWrite => Fault::CannotWrite,
-            RunFault::Folders(fault) => Fault::Folders(fault),
             RunFault::OutOfMemory => Fault::OutOfMemory,
         }
+    }
+}
+
+impl From<AllocError> for Fault<'_> {
+    ghost use Rattle.std.specs.Prelude.{◌≡◌};
+    ghost use Rattle.requests.specs.declared.fault.Fault.TheVariants.{OutOfMemory};
+
+    ghost from_gives = { λ _ fault. fault ≡ OutOfMemory };
+
+    fn from(_: AllocError) -> Self {
+        Fault::OutOfMemory
     }
 }
 
@@ -92,7 +104,6 @@ impl From<RuleFault> for Fault<'_> {
     fn from(fault: RuleFault) -> Self {
         match fault {
             RuleFault::RulePath(path) => Fault::RulePath(path),
-            RuleFault::Folders(fault) => Fault::Folders(fault),
             RuleFault::OutOfMemory => Fault::OutOfMemory,
         }
     }
@@ -122,6 +133,7 @@ impl Fault<'_> {
             Fault::Usage(text) => Some(text.as_str()),
             Fault::NotText => Some(tool.not_text()),
             Fault::CannotWrite => Some(tool.cannot_write()),
+            Fault::DiskUnchanged => Some(tool.disk_unchanged()),
             Fault::OutOfMemory => Some(tool.out_of_memory()),
             _ => None,
         }
@@ -135,12 +147,17 @@ impl Fault<'_> {
         match self {
             Fault::Usage(text) => String::from_str(alloc, text.as_str()),
             Fault::NotText => String::from_str(alloc, tool.not_text()),
-            Fault::BadEscape(text) => format!(in alloc;
-                "error: invalid value '{text}' for '--typed <TEXT>': unknown escape after a backslash\n\n\
-                 For more information, try '--help'.\n"
-            ),
+            Fault::BadEscape(text) => {
+                value_text(
+                    alloc,
+                    text,
+                    "--typed <TEXT>",
+                    "unknown escape after a backslash",
+                )
+            }
             Fault::CannotRead(path) => format!(in alloc; "{name}: cannot read {path}\n"),
             Fault::CannotWrite => String::from_str(alloc, tool.cannot_write()),
+            Fault::DiskUnchanged => String::from_str(alloc, tool.disk_unchanged()),
             Fault::Folders(fault) => format!(in alloc; "{name}: {fault}\n"),
             Fault::Refused(number) => format!(in alloc; "{name}: session refused {number}\n"),
             Fault::Malformed(line) => format!(in alloc; "{name}: line {line} is malformed\n"),
@@ -151,6 +168,20 @@ impl Fault<'_> {
             Fault::OutOfMemory => String::from_str(alloc, tool.out_of_memory()),
         }
     }
+}
+
+/// Returns the message for an option with a value that it cannot have, worded as `clap` words it.
+pub fn value_text(
+    alloc: Global,
+    value: &str,
+    option: &str,
+    mistake: &str,
+) -> Result<String, AllocError>
+    ensures { IfOk result (λ s. string_bytes s ≡ value_text value.now option.now mistake.now) }
+{
+    format!(in alloc;
+        "error: invalid value '{value}' for '{option}': {mistake}\n\nFor more information, try '--help'.\n"
+    )
 }
 
 /// Writes a text. A failure of the writer is ignored.

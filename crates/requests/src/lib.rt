@@ -9,5 +9,5 @@ mod request;
 mod tool;
 
 pub use fault::{Fault, report_fault};
-pub use request::{Request, clash_fault, print_information, request_of_error};
+pub use request::{Request, clash_fault, print_information, request_of_error, taken_fault};
 pub use tool::Tool;

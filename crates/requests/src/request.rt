@@ -1,9 +1,10 @@
 // The request in the words of a command line.
 
 ghost use Rattle.std.specs.Prelude.{◌≡◌, IfOk, IfErr};
-ghost use Rattle.requests.specs.Requests.{FailsToParse, IsRequestOf, WritesSomeText};
+ghost use Rattle.requests.specs.FaultReports.{value_text};
+ghost use Rattle.requests.specs.Requests.{FailsToParse, IsRequestOf, IsUsageError, WritesSomeText};
 
-use crate::fault::Fault;
+use crate::fault::{Fault, value_text};
 use crate::tool::Tool;
 use command_words::{Clash, ErrorClass};
 use std::alloc::{AllocError, Global};
@@ -38,13 +39,25 @@ pub fn request_of_error<'a, W>(
     }
 }
 
-// Returns the text of the usage error of two options that exclude each other, worded as `clap` words it.
+// Returns the text of the usage error of a clash, worded as `clap` words it.
 fn clash_text(alloc: Global, tool: Tool, clash: Clash) -> Result<String, AllocError> {
-    let Clash { first, second } = clash;
+    let reason = match clash {
+        Clash::Both(first, second) => {
+            format!(in alloc; "the argument '{first}' cannot be used with '{second}'")?
+        }
+        Clash::SameFolder(first, second) => {
+            format!(in alloc;
+                "the argument '{first}' cannot be used with '{second}': both are the same folder"
+            )?
+        }
+        Clash::Missing(option) => {
+            format!(in alloc; "the following required arguments were not provided:\n  {option}")?
+        }
+    };
     let name = tool.name();
     format!(in alloc;
         "\
-error: the argument '{first}' cannot be used with '{second}'
+error: {reason}
 
 Usage: {name} [OPTIONS] <PROGRAM> [TAIL]
 
@@ -53,11 +66,21 @@ For more information, try '--help'.
     )
 }
 
-/// Returns the usage error of words with two options that exclude each other.
+/// Returns the usage error of words with two options that exclude each other, or with one that lacks another.
 pub fn clash_fault<'a>(alloc: Global, tool: Tool, clash: Clash) -> Fault<'a>
     ensures { FailsToParse (λ outcome. outcome ≡ ErrorClass.UsageError) result }
 {
     match clash_text(alloc, tool, clash) {
+        Ok(text) => Fault::Usage(text),
+        Err(_) => Fault::OutOfMemory,
+    }
+}
+
+/// Returns the usage error of an option with a value that it cannot have, worded as `clap` words it.
+pub fn taken_fault<'a>(alloc: Global, value: &str, option: &str, mistake: &str) -> Fault<'a>
+    ensures { IsUsageError (value_text value.now option.now mistake.now) result }
+{
+    match value_text(alloc, value, option, mistake) {
         Ok(text) => Fault::Usage(text),
         Err(_) => Fault::OutOfMemory,
     }

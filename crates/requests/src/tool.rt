@@ -39,7 +39,7 @@ For more information, try '--help'.
 impl Tool {
     ghost use Rattle.std.specs.Prelude.{◌≡◌};
     ghost use Rattle.requests.specs.FaultReports.{message_of, name_of};
-    ghost use Rattle.requests.specs.declared.fault.Fault.TheVariants.{NotText, CannotWrite, OutOfMemory};
+    ghost use Rattle.requests.specs.declared.fault.Fault.TheVariants.{NotText, CannotWrite, DiskUnchanged, OutOfMemory};
 
     /// Returns the name of the program.
     pub fn name(self) -> &'static str
@@ -71,6 +71,17 @@ impl Tool {
             Tool::Cpmrun => "cpmrun: cannot write standard output\n",
             Tool::Cpmdeps => "cpmdeps: cannot write standard output\n",
             Tool::Cpmtrace => "cpmtrace: cannot write standard output\n",
+        }
+    }
+
+    /// Returns the message of `Fault::DiskUnchanged`.
+    pub(crate) fn disk_unchanged(self) -> &'static str
+        ensures { result.now ≡ message_of self DiskUnchanged }
+    {
+        match self {
+            Tool::Cpmrun => "cpmrun: cannot write standard output\ndisk unchanged\n",
+            Tool::Cpmdeps => "cpmdeps: cannot write standard output\ndisk unchanged\n",
+            Tool::Cpmtrace => "cpmtrace: cannot write standard output\ndisk unchanged\n",
         }
     }
 

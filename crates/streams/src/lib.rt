@@ -17,5 +17,5 @@ mod trail;
 
 pub use streams::{Failed, Over, Reader, Writer};
 pub use terminal::Terminal;
-pub use text::{Text, TextOver, write_all};
+pub use text::{STEPS_UNTIL_TEXT, Text, TextOver, write_all};
 pub use trail::Trail;

@@ -45,8 +45,9 @@ pub trait Writer {
         ensures ok { OnOk result ((output self.new).failures ≡ (output self.old).failures) }
         ensures err { OnErr result ((output self.new).failures ≡ (output self.old).failures + 1) };
 
-    /// Shows the steps of a run in progress, until something is written here or `hide_steps` is called. Only a terminal does so.
-    fn show_steps(&mut self, _steps: u64)
+    /// Shows the steps of a run in progress, until something is written here or `hide_steps` is called. Only a terminal does so, and only
+    /// if the text of the run is empty or ends a line, and has no ESC.
+    fn show_steps(&mut self, _steps: u64, _text: &[u8])
         ensures { output self.new ≡ output self.old }
     {}
 

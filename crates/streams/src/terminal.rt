@@ -1,5 +1,7 @@
 // Standard error, which may be a terminal.
 
+ghost use Rattle.std.specs.Prelude.{◌≡◌};
+
 use crate::streams::{Failed, Over, Writer};
 use std::env::{self, Env};
 use std::fs::{self, Files};
@@ -7,8 +9,8 @@ use std::io::Write;
 use std::rt::Clock;
 use std::time::{Duration, Instant};
 
-/// Standard error. If it is a terminal, it shows the steps of a run in progress once nothing was written for two seconds, and a contract
-/// does not see what it holds.
+/// Standard error. If it is a terminal, it shows the steps of a run in progress on a line of their own once nothing was written for two
+/// seconds, and a contract does not see what it holds.
 #[derive(Drop)]
 pub struct Terminal<'a, R, W> {
     rt: &'a R,
@@ -37,6 +39,18 @@ impl<'a, R: Alloc + Clock + Env + Files, W: Write> Terminal<'a, R, W> {
             _ => false,
         }
     }
+
+    // Wipes the steps that are shown, and begins to wait for two seconds. Their line has nothing else.
+    fn wipe(&mut self)
+        ensures terminal { self.new.is_terminal ≡ self.old.is_terminal }
+        ensures failures { self.new.over.failures ≡ self.old.over.failures }
+    {
+        if self.shows {
+            let _ = self.over.inner.write_all(b"\r\x1b[K");
+            self.shows = false;
+        }
+        self.quiet_since = Instant::now(self.rt).ok();
+    }
 }
 
 // Returns whether standard error is a terminal that can erase.
@@ -48,6 +62,14 @@ fn is_terminal<R: Alloc + Env + Files>(rt: &R) -> bool {
         return false;
     };
     (device.starts_with("/dev/pts") || device.starts_with("/dev/tty")) && kind.as_str() != "dumb"
+}
+
+// Returns whether a text leaves an empty line: it is empty or ends a line, and has no ESC, by which a program moves the cursor.
+fn begins_line(text: &[u8]) -> bool {
+    match text.last() {
+        Some(byte) => *byte == b'\n' && !text.contains(&0x1b),
+        None => true,
+    }
 }
 
 impl<R: Alloc + Clock + Env + Files, W: Write> Writer for Terminal<'_, R, W> {
@@ -64,27 +86,21 @@ impl<R: Alloc + Clock + Env + Files, W: Write> Writer for Terminal<'_, R, W> {
         self.over.write(piece)
     }
 
-    // The line is behind the cursor, which is moved back to where it was, and is cut at the margin.
-    fn show_steps(&mut self, steps: u64) {
+    // After two seconds the steps are shown again.
+    fn show_steps(&mut self, steps: u64, text: &[u8]) {
         if self.is_terminal && self.is_quiet() {
-            let millions = steps / 1_000_000;
-            let _ = write!(
-                self.over.inner,
-                "\x1b7\x1b[?7l {millions} million steps\x1b[?7h\x1b8"
-            );
-            self.shows = true;
+            self.wipe();
+            if begins_line(text) {
+                let millions = steps / 1_000_000;
+                let _ = write!(self.over.inner, "{millions} million steps");
+                self.shows = true;
+            }
         }
     }
 
-    // All that is behind the cursor is erased.
     fn hide_steps(&mut self) {
-        if !self.is_terminal {
-            return;
+        if self.is_terminal {
+            self.wipe();
         }
-        if self.shows {
-            let _ = self.over.inner.write_all(b"\x1b[J");
-            self.shows = false;
-        }
-        self.quiet_since = Instant::now(self.rt).ok();
     }
 }

@@ -10,6 +10,9 @@ use arrayvec::ArrayVec;
 use boxcar::tag::{Names, Tag};
 use std::snapshot::Snapshot;
 
+/// After this many steps of a run, the text that is there is sent.
+pub const STEPS_UNTIL_TEXT: u64 = 1_000_000;
+
 /// A text that grows by what is pushed onto it. If what it is sent to fails, it remembers that: nothing more is sent, and pushing goes
 /// on as before.
 pub trait Text {

@@ -26,6 +26,8 @@ pub enum Wanted<'a> {
     Parts(u8, &'a [&'a str], &'a [&'a str]),
     /// A standard output that takes this many bytes and then fails, which is reported.
     NoRoom(usize),
+    /// The same in a run with a disk, which is left as it was.
+    NoRoomOnDisk(usize),
     /// A standard error that takes this many bytes and then fails, which is ignored.
     Untold(usize, u8),
 }
@@ -122,6 +124,9 @@ fn is_wanted(folder: &str, told: Told<'_>, wanted: Wanted<'_>) -> bool {
             status == code && holds(out, texts) && holds(err, faults)
         }
         Wanted::NoRoom(_) => status == 1 && err == "cpmrun: cannot write standard output\n",
+        Wanted::NoRoomOnDisk(_) => {
+            status == 1 && err == "cpmrun: cannot write standard output\ndisk unchanged\n"
+        }
         Wanted::Untold(_, code) => status == code,
     }
 }
@@ -129,7 +134,7 @@ fn is_wanted(folder: &str, told: Told<'_>, wanted: Wanted<'_>) -> bool {
 // Returns the room of standard output and of standard error.
 fn rooms(wanted: Wanted<'_>) -> (usize, usize) {
     match wanted {
-        Wanted::NoRoom(room) => (room, usize::MAX),
+        Wanted::NoRoom(room) | Wanted::NoRoomOnDisk(room) => (room, usize::MAX),
         Wanted::Untold(room, _) => (usize::MAX, room),
         _ => (usize::MAX, usize::MAX),
     }

@@ -42,6 +42,12 @@ fn each_fault_has_its_message(rt: HostRuntime) -> Result<(), Fail> {
         Fault::CannotWrite,
         ("cannot write ", "standard output", 1),
     );
+    is_reported(
+        &rt,
+        alloc,
+        Fault::DiskUnchanged,
+        ("cannot write ", "standard output\ndisk unchanged", 1),
+    );
     is_reported(&rt, alloc, Fault::Refused(4), ("session refused ", "4", 1));
     is_reported(
         &rt,
@@ -67,10 +73,38 @@ fn a_fault_of_a_folder_has_its_message(rt: HostRuntime) -> Result<(), Fail> {
     let unwritten = Fault::Folders(folders::Fault::CannotWrite(text(alloc, "disk/A.TXT")?));
     let twice = Fault::Folders(folders::Fault::TwoFiles(name));
     let refused = Fault::Folders(folders::Fault::Refused(name, 2));
+    let unmoved = Fault::Folders(folders::Fault::CannotMove(
+        text(alloc, "disk/A.TXT")?,
+        text(alloc, "disk/.A.TXT.new")?,
+    ));
+    let changed = Fault::Folders(folders::Fault::Changed(text(alloc, "disk/A.TXT")?));
+    let irregular = Fault::Folders(folders::Fault::Irregular(text(alloc, "disk/A.TXT")?));
     is_reported(&rt, alloc, unread, ("cannot read ", "disk/a.txt", 1));
     is_reported(&rt, alloc, unwritten, ("cannot write ", "disk/A.TXT", 1));
     is_reported(&rt, alloc, twice, ("two files are ", "C:A.TXT", 1));
     is_reported(&rt, alloc, refused, ("file ", "C:A.TXT refused 2", 1));
+    is_reported(
+        &rt,
+        alloc,
+        unmoved,
+        (
+            "cannot write disk/A.TXT: ",
+            "its contents are in disk/.A.TXT.new",
+            1,
+        ),
+    );
+    is_reported(
+        &rt,
+        alloc,
+        changed,
+        ("cannot write disk/A.TXT: ", "it was changed meanwhile", 1),
+    );
+    is_reported(
+        &rt,
+        alloc,
+        irregular,
+        ("cannot write disk/A.TXT: ", "it is no regular file", 1),
+    );
     Ok(())
 }
 

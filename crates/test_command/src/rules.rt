@@ -1,7 +1,7 @@
 // Runs that write a rule for make.
 
 use crate::fixtures::Act::{Ask, Find, Put};
-use crate::fixtures::Wanted::{Answer, NoRoom, Parts, Untold};
+use crate::fixtures::Wanted::{Answer, NoRoom, NoRoomOnDisk, Parts, Untold};
 use crate::fixtures::{Act, HI, TAKE, play};
 use std::test::Fail;
 use test_sessions::program;
@@ -12,6 +12,12 @@ const MAKE: &[u8] = &program![MVI C,22; LXI D,0x006C; CALL 5; MVI C,22; LXI D,0x
 // Makes the file that the first word of the tail names, and prints `Hi`.
 const HI_MADE: &[u8] = &program![
     MVI C,22; LXI D,0x005C; CALL 5; MVI C,9; LXI D,0x0111; CALL 5; RET; DB b'H',b'i',b'$';
+];
+
+// Deletes the file that the first word of the tail names, makes it again, and prints `Hi`.
+const HI_REMADE: &[u8] = &program![
+    MVI C,19; LXI D,0x005C; CALL 5; MVI C,22; LXI D,0x005C; CALL 5; MVI C,9; LXI D,0x0119; CALL 5; RET;
+    DB b'H',b'i',b'$';
 ];
 
 const TARGETS: &[Act<'_>] = &[
@@ -30,16 +36,35 @@ const TARGETS: &[Act<'_>] = &[
 ];
 
 // The folder that is written is the one that is read: no target depends on itself.
+const DISK: &[Act<'_>] = &[
+    Put("m.com", HI_REMADE),
+    Put("x.txt", b"old"),
+    Ask(
+        &["@/m.com", "x.txt", "--disk", "@", "--deps", "@/.d"],
+        Answer(0, "Hi", "stop WarmBoot\n"),
+    ),
+    Find("x.txt", Some("")),
+    Find(".d", Some("@/x.txt: @/m.com\n")),
+    Ask(
+        &["@/m.com", "y.txt", "--disk", "@", "--deps", "@/.d"],
+        NoRoomOnDisk(1),
+    ),
+    Find("y.txt", None),
+    Find(".d", Some("@/x.txt: @/m.com\n")),
+];
+
+// A folder that is written is no other folder of the run.
 const SAME_FOLDER: &[Act<'_>] = &[
     Put("m.com", HI_MADE),
     Ask(
-        &[
-            "@/m.com", "x.txt", "--files", "@", "--out", "@", "--deps", "@/.d",
-        ],
-        Answer(0, "Hi", "stop WarmBoot\n"),
+        &["@/m.com", "x.txt", "--files", "@", "--out", "@"],
+        Parts(
+            1,
+            &[],
+            &["'--out <DIR>' cannot be used with '--files <DIR>': both are the same folder"],
+        ),
     ),
-    Find("X.TXT", Some("")),
-    Find(".d", Some("@/X.TXT: @/m.com\n# not there: ~/X.TXT\n")),
+    Find("X.TXT", None),
 ];
 
 const NO_FILES: &[Act<'_>] = &[
@@ -136,7 +161,8 @@ fn runs_that_write_a_rule(rt: HostRuntime) -> Result<(), Fail> {
         &rt,
         &[
             ("the targets are the files in order", TARGETS),
-            ("no target depends on itself", SAME_FOLDER),
+            ("no target depends on itself", DISK),
+            ("a folder is written and read", SAME_FOLDER),
             ("the rule is its own target", NO_FILES),
             ("edit lines have no rule", BOTH),
             ("a path is refused", REFUSED),

@@ -1,7 +1,8 @@
 // Acts in the folder of a test, and the expected results.
 
 use crate::listed::{Telling, told};
-use crate::written::{How, has_a_hole, holds, lacks, place, removed, wrote};
+use crate::planned::{Manner, Part, did};
+use crate::written::{How, has_a_hole, holds, lacks, place, wrote};
 use std::alloc::{AllocError, Global};
 use std::os::unix::fs::symlink;
 use std::test::Fail;
@@ -31,8 +32,10 @@ pub enum Act<'a> {
     Writes(&'a str, &'a str, How, Text<'a>),
     /// The path at which the file of this name is written if the folder is the disk of its drive, or the text of the error.
     Place(&'a str, &'a str, Text<'a>),
-    /// The text after a file is removed.
-    Removes(&'a str, Text<'a>),
+    /// The text after the deeds of one plan. Their paths are in the folder of the test.
+    Does(&'a [Part<'a>], Text<'a>),
+    /// The same if they are done one after another.
+    DoesEach(&'a [Part<'a>], Text<'a>),
     /// A written file that has two records, and zeros for the hole between them.
     HasAHole(&'a str),
     /// A file with these bytes.
@@ -42,8 +45,8 @@ pub enum Act<'a> {
 }
 
 use Act::{
-    HasAHole, HasBoth, Holds, Lacks, Link, MakeFolder, Place, Put, PutMany, PutSparse,
-    RemoveFolder, Removes, Tells, TellsBoth, Writes,
+    Does, DoesEach, HasAHole, HasBoth, Holds, Lacks, Link, MakeFolder, Place, Put, PutMany,
+    PutSparse, RemoveFolder, Tells, TellsBoth, Writes,
 };
 
 /// The expected text.
@@ -126,7 +129,8 @@ fn place_of(act: Act<'_>) -> &str {
         MakeFolder(place) | RemoveFolder(place) | Link(place, _) => place,
         Tells(place, _, _) | TellsBoth(place, _, _) | HasBoth(place) => place,
         Writes(place, _, _, _) | HasAHole(place) | Holds(place, _) | Lacks(place) => place,
-        Place(place, _, _) | Removes(place, _) => place,
+        Place(place, _, _) => place,
+        Does(_, _) | DoesEach(_, _) => "",
     }
 }
 
@@ -172,10 +176,8 @@ fn answers(rt: &HostRuntime, folder: &str, path: &str, act: Act<'_>) -> Result<b
             let found = place(rt, path, name)?;
             Ok(is_text(found.as_str(), folder, text))
         }
-        Removes(_, text) => {
-            let found = removed(rt, path)?;
-            Ok(is_text(found.as_str(), folder, text))
-        }
+        Does(parts, text) => does(rt, folder, parts, Manner::AsAWhole, text),
+        DoesEach(parts, text) => does(rt, folder, parts, Manner::OneByOne, text),
         HasAHole(_) => has_a_hole(rt, path),
         Holds(_, bytes) => holds(rt, path, bytes),
         Lacks(_) => lacks(rt, path),
@@ -229,6 +231,17 @@ fn writes(
     wanted: Text<'_>,
 ) -> Result<bool, Fail> {
     let found = wrote(rt, path, name, how)?;
+    Ok(is_text(found.as_str(), folder, wanted))
+}
+
+fn does(
+    rt: &HostRuntime,
+    folder: &str,
+    parts: &[Part<'_>],
+    manner: Manner,
+    wanted: Text<'_>,
+) -> Result<bool, Fail> {
+    let found = did(rt, folder, parts, manner)?;
     Ok(is_text(found.as_str(), folder, wanted))
 }
 

@@ -3,7 +3,7 @@
 //!
 //! - `reading`, `writing`, `faults`: tests over folders and files that they write
 //! - `acts`: acts in the folder of a test, and the expected results
-//! - `listed`, `written`: texts for folders that are read; files that a run made, and that are written
+//! - `listed`, `written`, `planned`: texts for folders that are read; files that a run made, and that are written; deeds of a plan
 #![tactic(auto)]
 
 #[cfg(test)]
@@ -12,6 +12,8 @@ mod acts;
 mod faults;
 #[cfg(test)]
 mod listed;
+#[cfg(test)]
+mod planned;
 #[cfg(test)]
 mod reading;
 #[cfg(test)]

@@ -22,7 +22,7 @@ pub fn told(
     telling: Telling,
 ) -> Result<String, Fail> {
     match read_folders(&mut SystemFiles::new(rt), &folders) {
-        Ok(files) => tell(rt.alloc(), &files, telling),
+        Ok(read) => tell(rt.alloc(), &read.files, telling),
         Err(failure) => Ok(text(rt.alloc(), &failure)?),
     }
 }

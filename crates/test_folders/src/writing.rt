@@ -1,10 +1,13 @@
 // Files that are written into a folder.
 
 use crate::acts::Act::{
-    HasAHole, Holds, Lacks, Link, MakeFolder, Place, Put, RemoveFolder, Removes, Tells, Writes,
+    Does, DoesEach, HasAHole, Holds, Lacks, Link, MakeFolder, Place, Put, RemoveFolder, Tells,
+    Writes,
 };
 use crate::acts::Text::{Around, Is};
 use crate::acts::{Case, play};
+use crate::planned::Expected::{Any, Loaded, Nothing};
+use crate::planned::Part::{Puts, Removes};
 use crate::written::How::{ToItsDrive, WithAHole};
 use crate::written::is_passed_over;
 use std::test::Fail;
@@ -20,32 +23,117 @@ const CASES: &[Case<'_>] = &[
             Tells("", Some(0), Is(" H.DAT")),
         ],
     },
-    // A folder is at the path where the file is first written, so that nothing can be written there.
+    // Nothing is done before the contents of each file are written.
     Case {
-        name: "an older file stays if the new one is not written",
+        name: "older files stay if a new one is not written",
         acts: &[
             Put("H.DAT", b"as it was"),
-            MakeFolder(".H.DAT.new"),
-            Put(".H.DAT.new/x", b"x"),
-            Writes("", "h.dat", WithAHole, Around("cannot write ", "/H.DAT")),
+            Put("gone", b"gone"),
+            Does(
+                &[
+                    Removes("gone", Loaded(b"gone")),
+                    Puts("H.DAT", Loaded(b"as it was")),
+                    Puts("none/X", Any),
+                ],
+                Around("cannot write ", "/none/X"),
+            ),
             Holds("H.DAT", b"as it was"),
-            Holds(".H.DAT.new/x", b"x"),
+            Holds("gone", b"gone"),
+            Lacks(".H.DAT.new"),
         ],
     },
-    // A file left at the path where the file is first written does no harm, and a link left there is not followed.
+    Case {
+        name: "deeds are done in their order",
+        acts: &[
+            Put("gone", b"gone"),
+            Does(&[Puts("X", Nothing), Removes("gone", Any)], Is("")),
+            Holds("X", b"put"),
+            Lacks("gone"),
+            Does(
+                &[Puts("Y", Nothing), Removes("gone", Any), Puts("Z", Nothing)],
+                Around("cannot write ", "/gone"),
+            ),
+            Holds("Y", b"put"),
+            Lacks("Z"),
+            Holds(".Z.new", b"put"),
+        ],
+    },
+    Case {
+        name: "deeds are done one after another",
+        acts: &[
+            DoesEach(
+                &[Puts("X", Any), Puts("none/Y", Any), Puts("Z", Any)],
+                Around("cannot write ", "/none/Y"),
+            ),
+            Holds("X", b"put"),
+            Lacks("Z"),
+            Lacks(".Z.new"),
+        ],
+    },
+    // What is at a path where the file would first be written stays, and a link there is not followed.
     Case {
         name: "what was left is not written into",
         acts: &[
             Put(".H.DAT.new", b"left"),
             Writes("", "h.dat", WithAHole, Is("")),
             HasAHole("H.DAT"),
-            Lacks(".H.DAT.new"),
+            Holds(".H.DAT.new", b"left"),
+            Lacks(".H.DAT.new.1"),
             Put("other", b"other"),
-            Link(".H.DAT.new", "other"),
+            Link(".H.DAT.new.1", "other"),
+            MakeFolder(".H.DAT.new.2"),
+            Put(".H.DAT.new.2/x", b"x"),
             Writes("", "h.dat", WithAHole, Is("")),
             HasAHole("H.DAT"),
-            Lacks(".H.DAT.new"),
             Holds("other", b"other"),
+            Holds(".H.DAT.new.1", b"other"),
+            Holds(".H.DAT.new.2/x", b"x"),
+            Lacks(".H.DAT.new.3"),
+        ],
+    },
+    Case {
+        name: "a file that was changed meanwhile is left as it is",
+        acts: &[
+            Put("X", b"new"),
+            Does(
+                &[Puts("A", Any), Puts("X", Loaded(b"old"))],
+                Around("cannot write ", "/X: it was changed meanwhile"),
+            ),
+            Lacks("A"),
+            Does(
+                &[Puts("X", Nothing)],
+                Around("cannot write ", "/X: it was changed meanwhile"),
+            ),
+            Does(
+                &[Removes("X", Loaded(b"old"))],
+                Around("cannot write ", "/X: it was changed meanwhile"),
+            ),
+            Does(
+                &[Puts("gone", Loaded(b"old"))],
+                Around("cannot write ", "/gone: it was changed meanwhile"),
+            ),
+            Lacks("gone"),
+            Holds("X", b"new"),
+            Lacks(".X.new"),
+            Does(&[Puts("X", Loaded(b"new"))], Is("")),
+            Holds("X", b"put"),
+        ],
+    },
+    Case {
+        name: "what is no file is not replaced",
+        acts: &[
+            Put("other", b"other"),
+            Link("X", "other"),
+            Does(
+                &[Puts("X", Any)],
+                Around("cannot write ", "/X: it is no regular file"),
+            ),
+            Does(
+                &[Removes("X", Any)],
+                Around("cannot write ", "/X: it is no regular file"),
+            ),
+            Holds("X", b"other"),
+            Lacks(".X.new"),
         ],
     },
     // No other file is left in the folder.
@@ -54,7 +142,12 @@ const CASES: &[Case<'_>] = &[
         acts: &[
             Writes("none", "b:h", WithAHole, Around("cannot write ", "/none/H")),
             MakeFolder("H"),
-            Writes("", "h", WithAHole, Around("cannot write ", "/H")),
+            Writes(
+                "",
+                "h",
+                WithAHole,
+                Around("cannot write ", "/H: it is no regular file"),
+            ),
             RemoveFolder("H"),
             RemoveFolder(""),
         ],
@@ -108,11 +201,14 @@ const CASES: &[Case<'_>] = &[
         name: "a file is removed",
         acts: &[
             Put("x", b"x"),
-            Removes("x", Is("")),
+            Does(&[Removes("x", Any)], Is("")),
             Lacks("x"),
-            Removes("x", Around("cannot write ", "/x")),
+            Does(&[Removes("x", Any)], Around("cannot write ", "/x")),
             MakeFolder("y"),
-            Removes("y", Around("cannot write ", "/y")),
+            Does(
+                &[Removes("y", Any)],
+                Around("cannot write ", "/y: it is no regular file"),
+            ),
         ],
     },
 ];

@@ -1,9 +1,14 @@
 // Files that a run made, and that are written.
 
 use crate::listed::text;
+use crate::planned::text_of;
 use filenames::{Drive, Name};
-use folders::{Failure, FileSystem, Places, SystemFiles, name_in_folder, remove_path, write_path};
+use folders::{
+    DriveFolder, Failure, FileSystem, Listing, Places, SystemFiles, Written, name_in_folder,
+    read_folders,
+};
 use hostfiles::{FileView, Gap, HostFiles, Journal};
+use plan::{Before, Plan, carry_out_each};
 use std::alloc::{AllocError, Global};
 use std::fs;
 use std::io::ErrorKind;
@@ -67,19 +72,26 @@ fn write(
         How::WithAHole => [Some(folder); 4],
         How::ToItsDrive => folders,
     };
-    let answer = write_at_place(&mut system, &folders, name, &file);
+    let answer = write_at_place(&mut system, folders, name, file);
     text_of(rt.alloc(), answer)
 }
 
 fn write_at_place<S: FileSystem>(
     system: &mut S,
-    folders: &[Option<&str>; 4],
+    out: [Option<&str>; 4],
     name: &Name,
-    file: &FileView<'_>,
+    file: FileView<'_>,
 ) -> Result<(), Failure> {
-    let places = Places::find(system, folders, &[None; 4])?;
+    let places = Places {
+        out,
+        disks: [None; 4],
+    };
     match places.path_of(system.alloc(), name) {
-        Ok(Some(path)) => write_path(system, path.as_str(), file),
+        Ok(Some(path)) => {
+            let mut plan = Plan::new(system.alloc());
+            plan.put(system, path, Before::Any, Written::File(file))?;
+            carry_out_each(system, plan)
+        }
         Ok(None) => Ok(()),
         Err(_) => Err(Failure::OutOfMemory),
     }
@@ -89,14 +101,27 @@ fn write_at_place<S: FileSystem>(
 pub fn place(rt: &HostRuntime, folder: &str, name: &str) -> Result<String, Fail> {
     let mut system = SystemFiles::new(rt);
     let name = Name::parse(name)?;
-    match Places::find(&mut system, &[None; 4], &[Some(folder); 4]) {
-        Ok(places) => Ok(place_in(rt.alloc(), &places, &name)?),
+    match read_folders(&mut system, &[Some(folder); 4]) {
+        Ok(read) => Ok(place_on(rt.alloc(), folder, &read.listings, &name)?),
         Err(failure) => Ok(text(rt.alloc(), &failure)?),
     }
 }
 
+fn place_on<'a>(
+    alloc: Global,
+    folder: &'a str,
+    listings: &'a [Option<Listing>; 4],
+    name: &Name,
+) -> Result<String, AllocError> {
+    let places = Places {
+        out: [None; 4],
+        disks: DriveFolder::with_names(&[Some(folder); 4], listings),
+    };
+    place_in(alloc, &places, name)
+}
+
 // Returns the path at which a file is written, if it is removed from there too.
-fn place_in(alloc: Global, places: &Places, name: &Name) -> Result<String, AllocError> {
+fn place_in(alloc: Global, places: &Places<'_>, name: &Name) -> Result<String, AllocError> {
     let Some(written) = places.path_of(alloc, name)? else {
         return String::from_str(alloc, "written nowhere");
     };
@@ -107,20 +132,6 @@ fn place_in(alloc: Global, places: &Places, name: &Name) -> Result<String, Alloc
         return Ok(written);
     }
     String::from_str(alloc, "removed from another place")
-}
-
-/// Removes a file, and returns the text for the error, empty if there is none.
-pub fn removed(rt: &HostRuntime, path: &str) -> Result<String, Fail> {
-    let path = String::from_str(rt.alloc(), path)?;
-    Ok(text_of(rt.alloc(), remove_path(&mut SystemFiles::new(rt), path))?)
-}
-
-// Returns the text for an error, empty if there is none.
-fn text_of(alloc: Global, answer: Result<(), Failure>) -> Result<String, AllocError> {
-    match answer {
-        Ok(()) => Ok(String::new(alloc)),
-        Err(failure) => text(alloc, &failure),
-    }
 }
 
 /// Returns whether a file has two records, and zeros for the hole between them.

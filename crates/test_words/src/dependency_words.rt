@@ -1,6 +1,6 @@
 // The words of `cpmdeps`.
 
-use crate::fixtures::{has_parts, owned};
+use crate::fixtures::{has_parts, is_clash, owned};
 use command_words::ErrorClass::{Information, UsageError};
 use command_words::{
     DependencyWords, ErrorClass, SessionWords, error_class, read_dependency_words,
@@ -15,8 +15,10 @@ struct Read<'a> {
     words: &'a [&'a str],
     program: &'a str,
     tail: &'a str,
-    /// For the drives A to D.
+    /// The folder of each of the drives A to D, or its disk.
     files: &'a [Option<&'a str>],
+    /// The options that exclude each other.
+    clash: &'a [&'a str],
     console: Option<&'a str>,
     typed: Option<&'a str>,
     limit: u64,
@@ -30,6 +32,7 @@ const PROGRAM: Read<'_> = Read {
     program: "p.com",
     tail: "",
     files: &[None; 4],
+    clash: &[],
     console: None,
     typed: None,
     limit: 1_000_000,
@@ -62,6 +65,19 @@ const READ: &[Read<'_>] = &[
         ..PROGRAM
     },
     Read {
+        words: &["p.com", "--disk", "da", "--files-c", "fc", "--disk-d=dd"],
+        files: &[Some("da"), None, Some("fc"), Some("dd")],
+        limit: 4_000_000_000,
+        ..PROGRAM
+    },
+    Read {
+        words: &["p.com", "--disk-b", "d", "--files-b", "d", "--limit=5"],
+        files: &[None, Some("d"), None, None],
+        clash: &["--files-b <DIR>", "--disk-b <DIR>"],
+        limit: 5,
+        ..PROGRAM
+    },
+    Read {
         words: &["p.com", "--typed", "a\\rq"],
         typed: Some("a\\rq"),
         ..PROGRAM
@@ -80,6 +96,7 @@ const READ: &[Read<'_>] = &[
         words: &["p.com", "--make=made", "--by-step"],
         target: Some("made"),
         by_step: true,
+        clash: &["--make <TARGET>", "--by-step"],
         ..PROGRAM
     },
     Read {
@@ -107,7 +124,9 @@ const UNREAD: &[Unread<'_>] = &[
     (&["p.com", "--by-step", "--by-step"], UsageError, &[]),
     (&["p.com", "--limit", "4000000001"], UsageError, &[]),
     (&["p.com", "--out", "changed"], UsageError, &[]),
-    (&["p.com", "--disk", "disk"], UsageError, &[]),
+    (&["p.com", "--disk-c", ""], UsageError, &["--disk-c <DIR>"]),
+    (&["p.com", "--partial"], UsageError, &[]),
+    (&["p.com", "--trace", "t"], UsageError, &[]),
     (&["p.com", "--edits", "lines"], UsageError, &[]),
     (&["p.com", "--slots", "4"], UsageError, &[]),
     (
@@ -117,6 +136,7 @@ const UNREAD: &[Unread<'_>] = &[
             "Usage: cpmdeps [OPTIONS] <PROGRAM> [TAIL]",
             "--files <DIR>",
             "--files-d <DIR>",
+            "--disk-d <DIR>",
             "--console <FILE>",
             "--limit <N>",
             "--by-step",
@@ -149,6 +169,7 @@ fn is_read(read: &DependencyWords<'_>, wanted: &Read<'_>) -> bool {
     is_same_session(&read.session, wanted)
         && read.target == wanted.target
         && read.by_step == wanted.by_step
+        && is_clash(read.clash(), wanted.clash)
 }
 
 fn compare_read(rt: &impl Abort, alloc: Global, wanted: &Read<'_>) -> Result<(), AllocError> {

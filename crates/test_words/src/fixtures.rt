@@ -1,6 +1,6 @@
 // The results of words that a caller gives.
 
-use command_words::{ErrorClass, Words, error_class, read_words};
+use command_words::{Clash, ErrorClass, Words, error_class, read_words};
 use std::alloc::{AllocError, Global};
 use std::process::Abort;
 use std::test::Fail;
@@ -19,8 +19,11 @@ pub struct Fields<'a> {
     pub out: &'a [Option<&'a str>],
     /// For the drives A to D.
     pub disk: &'a [Option<&'a str>],
+    pub partial: bool,
     pub edits: Option<&'a str>,
     pub deps: Option<&'a str>,
+    pub target: Option<&'a str>,
+    pub trace: Option<&'a str>,
     pub spacing: u64,
     pub slots: usize,
 }
@@ -49,8 +52,11 @@ pub const PROGRAM: Fields<'_> = Fields {
     limit: 1_000_000,
     out: &[None; 4],
     disk: &[None; 4],
+    partial: false,
     edits: None,
     deps: None,
+    target: None,
+    trace: None,
     spacing: 10_000,
     slots: 64,
 };
@@ -84,10 +90,14 @@ fn has_same_files(words: &Words<'_>, wanted: &Fields<'_>) -> bool {
     are_same(&words.files, wanted.files)
         && are_same(&words.out, wanted.out)
         && are_same(&words.disk, wanted.disk)
+        && words.partial == wanted.partial
         && words.console == wanted.console
         && words.typed == wanted.typed
         && words.edits == wanted.edits
-        && words.deps == wanted.deps
+}
+
+fn has_same_reports(words: &Words<'_>, wanted: &Fields<'_>) -> bool {
+    words.deps == wanted.deps && words.target == wanted.target && words.trace == wanted.trace
 }
 
 fn has_same_numbers(words: &Words<'_>, wanted: &Fields<'_>) -> bool {
@@ -100,8 +110,19 @@ fn is_read(words: &Words<'_>, wanted: Wanted<'_>) -> bool {
             words.program == wanted.program
                 && words.tail == wanted.tail
                 && has_same_files(words, wanted)
+                && has_same_reports(words, wanted)
                 && has_same_numbers(words, wanted)
         }
+        _ => false,
+    }
+}
+
+/// Whether this is the clash that is wanted: no option, the one that is missing, or the two that exclude each other.
+pub fn is_clash(found: Option<Clash>, wanted: &[&str]) -> bool {
+    match (found, wanted) {
+        (Some(Clash::Both(first, second)), [a, b]) => first == *a && second == *b,
+        (Some(Clash::Missing(option)), [a]) => option == *a,
+        (None, []) => true,
         _ => false,
     }
 }

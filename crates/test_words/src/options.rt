@@ -1,7 +1,7 @@
 // Each option, and its default.
 
-use crate::fixtures::{Row, have_results, owned, read};
-use command_words::{Clash, read_words};
+use crate::fixtures::{Row, have_results, is_clash, owned, read};
+use command_words::read_words;
 use std::alloc::{AllocError, Global};
 use std::test::Fail;
 
@@ -57,11 +57,26 @@ const ROWS: &[Row<'_>] = &[
             "--disk-b",
             "db",
         ],
-        read!(disk: &[Some("da"), Some("db"), Some("dc"), Some("dd")]),
+        read!(
+            disk: &[Some("da"), Some("db"), Some("dc"), Some("dd")],
+            limit: 4_000_000_000
+        ),
     ),
     (
-        &["--deps", "p.d", "p.com", "--out", "oa"],
-        read!(out: &[Some("oa"), None, None, None], deps: Some("p.d")),
+        &["p.com", "--partial", "--disk-d", "dd", "--limit", "1000000"],
+        read!(disk: &[None, None, None, Some("dd")], partial: true),
+    ),
+    (
+        &["--deps", "p.d", "p.com", "--out", "oa", "--target=p out"],
+        read!(
+            out: &[Some("oa"), None, None, None],
+            deps: Some("p.d"),
+            target: Some("p out")
+        ),
+    ),
+    (
+        &["p.com", "--trace", "/dev/null"],
+        read!(trace: Some("/dev/null")),
     ),
 ];
 
@@ -70,46 +85,45 @@ fn each_option_has_its_value(rt: HostRuntime) -> Result<(), Fail> {
     have_results(&rt, rt.alloc(), ROWS)
 }
 
-// Words of which some exclude others, and the options that a usage error names.
-type Clashing<'a> = (&'a [&'a str], Option<(&'a str, &'a str)>);
+// Words of which some exclude or lack others, and the options that a usage error names.
+type Clashing<'a> = (&'a [&'a str], &'a [&'a str]);
 
 const CLASHES: &[Clashing<'_>] = &[
-    (&["p.com", "--console", "c", "--disk", "d"], None),
-    (&["p.com", "--files", "f", "--disk-b", "d"], None),
-    (&["p.com", "--edits", "e", "--typed", "t"], None),
+    (&["p.com", "--console", "c", "--disk", "d"], &[]),
+    (&["p.com", "--files", "f", "--disk-b", "d"], &[]),
+    (&["p.com", "--edits", "e", "--typed", "t"], &[]),
     (
         &["p.com", "--typed", "t", "--console", "c"],
-        Some(("--console <FILE>", "--typed <TEXT>")),
+        &["--console <FILE>", "--typed <TEXT>"],
     ),
     (
         &["p.com", "--deps", "d", "--edits", "e"],
-        Some(("--edits <FILE>", "--deps <FILE>")),
+        &["--edits <FILE>", "--deps <FILE>"],
     ),
     (
+        &["p.com", "--trace", "t", "--edits", "e"],
+        &["--edits <FILE>", "--trace <FILE>"],
+    ),
+    (&["p.com", "--trace", "t", "--deps", "d"], &[]),
+    (&["p.com", "--target", "t"], &["--deps <FILE>"]),
+    (&["p.com", "--target", "t", "--deps", "d"], &[]),
+    (
         &["p.com", "--files", "f", "--disk", "d"],
-        Some(("--files <DIR>", "--disk <DIR>")),
+        &["--files <DIR>", "--disk <DIR>"],
     ),
     (
         &["p.com", "--files-c", "f", "--disk-c", "d"],
-        Some(("--files-c <DIR>", "--disk-c <DIR>")),
+        &["--files-c <DIR>", "--disk-c <DIR>"],
     ),
     (
         &["p.com", "--out-b", "o", "--disk-b", "d"],
-        Some(("--out-b <DIR>", "--disk-b <DIR>")),
+        &["--out-b <DIR>", "--disk-b <DIR>"],
     ),
     (
         &["p.com", "--out-d", "o", "--disk-d", "d"],
-        Some(("--out-d <DIR>", "--disk-d <DIR>")),
+        &["--out-d <DIR>", "--disk-d <DIR>"],
     ),
 ];
-
-fn is_clash(found: Option<Clash>, wanted: Option<(&str, &str)>) -> bool {
-    match (found, wanted) {
-        (Some(found), Some(wanted)) => found.first == wanted.0 && found.second == wanted.1,
-        (None, None) => true,
-        _ => false,
-    }
-}
 
 // Returns whether the words have this clash.
 fn has_clash(alloc: Global, row: &Clashing<'_>) -> Result<bool, AllocError> {

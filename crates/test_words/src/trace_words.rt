@@ -1,6 +1,6 @@
 // The words of `cpmtrace`.
 
-use crate::fixtures::{has_parts, owned};
+use crate::fixtures::{has_parts, is_clash, owned};
 use command_words::ErrorClass::{Information, UsageError};
 use command_words::{Clash, ErrorClass, SessionWords, TraceWords, error_class, read_trace_words};
 use std::alloc::{AllocError, Global};
@@ -13,6 +13,8 @@ struct Read<'a> {
     words: &'a [&'a str],
     program: &'a str,
     tail: &'a str,
+    /// The folder of each of the drives A to D, or its disk.
+    files: &'a [Option<&'a str>],
     typed: Option<&'a str>,
     limit: u64,
     steps: bool,
@@ -30,6 +32,7 @@ const PROGRAM: Read<'_> = Read {
     words: &["p.com"],
     program: "p.com",
     tail: "",
+    files: &[None; 4],
     typed: None,
     limit: 1_000_000,
     steps: false,
@@ -50,6 +53,12 @@ const READ: &[Read<'_>] = &[
         typed: Some("q"),
         limit: 0,
         steps: true,
+        ..PROGRAM
+    },
+    Read {
+        words: &["p.com", "--files", "fa", "--disk-b", "db"],
+        files: &[Some("fa"), Some("db"), None, None],
+        limit: 4_000_000_000,
         ..PROGRAM
     },
     Read {
@@ -110,12 +119,14 @@ const UNREAD: &[Unread<'_>] = &[
     (&["p.com", "--at"], UsageError, &["--at <ADDR>"]),
     (&["p.com", "--by-step"], UsageError, &[]),
     (&["p.com", "--out", "changed"], UsageError, &[]),
+    (&["p.com", "--trace", "t"], UsageError, &[]),
     (
         &["--help"],
         Information,
         &[
             "Usage: cpmtrace [OPTIONS] <PROGRAM> [TAIL]",
             "--files-d <DIR>",
+            "--disk-d <DIR>",
             "--limit <N>",
             "--steps",
             "--from <N>",
@@ -133,7 +144,10 @@ const UNREAD: &[Unread<'_>] = &[
 ];
 
 fn is_same_session(read: &SessionWords<'_>, wanted: &Read<'_>) -> bool {
-    read.program == wanted.program && read.tail == wanted.tail && read.limit == wanted.limit
+    read.program == wanted.program
+        && read.tail == wanted.tail
+        && read.files.as_slice() == wanted.files
+        && read.limit == wanted.limit
 }
 
 fn has_same_numbers(read: &TraceWords<'_>, wanted: &Read<'_>) -> bool {
@@ -204,10 +218,12 @@ fn help_version_and_usage_errors_of_cpmtrace(rt: HostRuntime) -> Result<(), Fail
 }
 
 #[test]
-fn a_file_and_a_text_for_the_script_exclude_each_other(rt: HostRuntime) -> Result<(), Fail> {
-    let both = clash_of(rt.alloc(), &["p.com", "--typed", "q", "--console", "c"])?;
-    assert!(rt; both.is_some_and(|clash| clash.first == "--console <FILE>"));
-    let one = clash_of(rt.alloc(), &["p.com", "--console", "c", "--at", "0"])?;
+fn options_of_cpmtrace_that_exclude_others(rt: HostRuntime) -> Result<(), Fail> {
+    let script = clash_of(rt.alloc(), &["p.com", "--typed", "q", "--console", "c"])?;
+    assert!(rt; is_clash(script, &["--console <FILE>", "--typed <TEXT>"]));
+    let drive = clash_of(rt.alloc(), &["p.com", "--disk-d", "d", "--files-d", "f"])?;
+    assert!(rt; is_clash(drive, &["--files-d <DIR>", "--disk-d <DIR>"]));
+    let one = clash_of(rt.alloc(), &["p.com", "--console", "c", "--disk", "d"])?;
     assert!(rt; one.is_none());
     Ok(())
 }

@@ -1,3 +1,2 @@
 mod Addresses
-mod Messages
 pub mod Answering

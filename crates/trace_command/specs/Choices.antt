@@ -1,5 +1,5 @@
 -- The choice of steps that the words describe. (This project's profile.)
-use Rattle.std.specs.Prelude.{◌≡◌, ◌==◌, ◌&&◌, ◌++◌, ℕ, Bool, nat_le, nat_lt, List, length, if◌then◌else◌, codes, Option, Some, None, option_map, unwrap_or}
+use Rattle.std.specs.Prelude.{◌≡◌, ◌==◌, ◌&&◌, ℕ, Bool, nat_le, nat_lt, List, length, if◌then◌else◌, codes, Option, Some, None, option_map, unwrap_or}
 use Rattle.std.specs.Borrow.{Bor}
 use Rattle.std.specs.Char.{is_ascii_hexdigit}
 use Rattle.std.specs.List.{after_first, before_first, list_all, position_or_len}
@@ -7,6 +7,7 @@ use Rattle.std.specs.Result.{result_ok}
 use Rattle.std.specs.Str.Parse.{digits_value}
 use Rattle.command_words.specs.declared.trace_words.TraceWords.{TraceWords}
 use Rattle.filenames.specs.Names.{Key, name_of}
+use Rattle.requests.specs.FaultReports.{value_text}
 use Rattle.trials.specs.declared.ranges.CellRange.{CellRange}
 use Rattle.trace_filters.specs.declared.choice.Choice.{Choice}
 use Rattle.trace_command.specs.declared.choice.BadValue.{BadValue}
@@ -94,6 +95,4 @@ mistake_text File = codes "not a name of a file on the drives A to D"
 
 -- The message of such a value, worded as clap's.
 abbrev pub bad_value_text : BadValue → List ℕ
-bad_value_text bad =
-    codes "error: invalid value '" ++ bad.value.now ++ codes "' for '" ++ option_text bad.filter ++ codes "': " ++ mistake_text bad.filter
-    ++ codes "\n\nFor more information, try '--help'.\n"
+bad_value_text bad = value_text bad.value.now (option_text bad.filter) (mistake_text bad.filter)

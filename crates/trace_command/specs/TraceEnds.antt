@@ -1,5 +1,5 @@
 -- The ways in which `cpmtrace` ends. (This project's profile.)
-use Rattle.std.specs.Prelude.{◌≡◌, ℕ, ◌⊎◌, List, Some, string_bytes}
+use Rattle.std.specs.Prelude.{◌≡◌, ℕ, ◌⊎◌, List, Some}
 use Rattle.command_words.specs.ErrorClass.{HasErrorClass}
 use Rattle.command_words.specs.TraceLine.{trace_faults}
 use Rattle.command_words.specs.declared.error_classes.ErrorClass.{ErrorClass}
@@ -14,9 +14,9 @@ use Rattle.trace_filters.specs.declared.choice.Choice.{Choice}
 use Rattle.tracing.specs.declared.fault.TraceFault.{TraceFault}
 use Rattle.tracing.specs.declared.fault.TraceFault.TheVariants as trace
 use Rattle.requests.specs.FaultReports.{EndsWithFault}
-use Rattle.requests.specs.Requests.{FailsToInform, FailsToLoadSession, FailsToParse, WritesNothing}
+use Rattle.requests.specs.Requests.{FailsToInform, FailsToLoadSession, FailsToParse, IsUsageError, WritesNothing}
 use Rattle.requests.specs.declared.fault.Fault.{Fault}
-use Rattle.requests.specs.declared.fault.Fault.TheVariants.{Usage, CannotWrite, OutOfMemory}
+use Rattle.requests.specs.declared.fault.Fault.TheVariants.{CannotWrite, OutOfMemory}
 use Rattle.requests.specs.declared.tool.Tool.TheVariants.{Cpmtrace}
 use Rattle.trace_command.specs.AreTraceWords.{AreTraceWords, Clash}
 use Rattle.trace_command.specs.Choices.{IsBadValueOf, bad_value_text, choice_of}
@@ -55,15 +55,9 @@ pub record EndsWithTrace (words : List (List ℕ)) (status : ℕ) (before after 
 abbrev pub HasFaultClass : List (List ℕ) → ErrorClass → Type 0
 HasFaultClass words outcome = HasErrorClass (trace_faults words) outcome ⊎ ((outcome ≡ UsageError) × Clash words)
 
--- The error for a value that an option cannot have, with its message, or out of memory if there was none for the message.
-abbrev pub IsFaultOfValue : BadValue → Fault → Type 0
-IsFaultOfValue bad (Usage text) = string_bytes text ≡ bad_value_text bad
-IsFaultOfValue bad OutOfMemory = Unit {0}
-IsFaultOfValue bad fault = ⊥
-
--- The words have such a value.
+-- The words have a value that its option cannot have.
 abbrev pub RefusesValue : TraceWords → Fault → Type 0
-RefusesValue w fault = (bad : BadValue) × IsBadValueOf w bad × IsFaultOfValue bad fault
+RefusesValue w fault = (bad : BadValue) × IsBadValueOf w bad × IsUsageError (bad_value_text bad) fault
 
 -- What was written of the trace before an error.
 abbrev pub BreaksAnswer : List ℕ → Output → Output → Fault → Type 0

@@ -8,7 +8,8 @@ ghost use Rattle.trace_command.specs.Choices.{IsBadValueOf, IsUnread};
 
 use command_words::TraceWords;
 use filenames::{Key, Name};
-use std::alloc::{AllocError, Global};
+use requests::{Fault, taken_fault};
+use std::alloc::Global;
 use tracing::{CellRange, Choice};
 
 /// An option that chooses steps, with a value that `clap` takes as any text.
@@ -62,18 +63,18 @@ impl Filter {
 }
 
 impl BadValue<'_> {
-    ghost use Rattle.std.specs.Prelude.{◌≡◌, IfOk, string_bytes};
+    ghost use Rattle.requests.specs.Requests.{IsUsageError};
     ghost use Rattle.trace_command.specs.Choices as texts;
 
-    /// Returns the message, worded as `clap` words it.
-    pub fn message(&self, alloc: Global) -> Result<String, AllocError>
-        ensures { IfOk result (λ s. string_bytes s ≡ texts.bad_value_text self.now) }
+    /// Returns the usage error of such a value.
+    pub fn fault<'a>(&self, alloc: Global) -> Fault<'a>
+        ensures { IsUsageError (texts.bad_value_text self.now) result }
     {
-        let value = self.value;
-        let option = self.filter.option();
-        let mistake = self.filter.mistake();
-        format!(in alloc;
-            "error: invalid value '{value}' for '{option}': {mistake}\n\nFor more information, try '--help'.\n"
+        taken_fault(
+            alloc,
+            self.value,
+            self.filter.option(),
+            self.filter.mistake(),
         )
     }
 }

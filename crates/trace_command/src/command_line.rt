@@ -27,10 +27,7 @@ fn choose<'a>(alloc: Global, words: &TraceWords<'_>) -> Result<Choice, Fault<'a>
 {
     match read_choice(words) {
         Ok(choice) => Ok(choice),
-        Err(bad) => match bad.message(alloc) {
-            Ok(text) => Err(Fault::Usage(text)),
-            Err(_) => Err(Fault::OutOfMemory),
-        },
+        Err(bad) => Err(bad.fault(alloc)),
     }
 }
 
@@ -72,8 +69,8 @@ fn run<'a, S: FileSystem, O: Writer>(
         Request::Information(text) => return print_information(text.as_str(), out),
     };
     let choice = choose(system.alloc(), &words)?;
-    let session = load(system, &words.session)?;
-    write_answer(system.alloc(), &session, &choice, out)
+    let loaded = load(system, &words.session)?;
+    write_answer(system.alloc(), &loaded.session, &choice, out)
 }
 
 /// Prints the trace of the run of a session, for the words after the program's name and over the files of a file system, and returns

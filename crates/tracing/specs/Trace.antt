@@ -1,5 +1,5 @@
 -- The trace of a session: the lines of its chosen steps, and then its stop. (This project's profile.)
-use Rattle.std.specs.Prelude.{ℕ, zero, suc, ◌+◌, ◌-◌, List, [], ◌∷◌, ◌++◌, length, take, drop, if◌then◌else◌, Option, Some, None}
+use Rattle.std.specs.Prelude.{ℕ, zero, suc, false, ◌+◌, ◌-◌, List, [], ◌∷◌, ◌++◌, length, take, drop, if◌then◌else◌, Option, Some, None}
 use Rattle.std.specs.List.{concat}
 use Rattle.interaction_trees.specs.Outcome.{Outcome, Step, Stop}
 use Rattle.console_calls.specs.declared.cause.Cause.{Cause}
@@ -40,6 +40,19 @@ last_lines (Some n) ls = drop (length ls - n) ls
 -- The lines of a session, and then the line of its stop.
 unfoldable pub trace_text : Choice → Session → List ℕ
 trace_text c s = concat (last_lines c.last (all_lines c s)) ++ stop_line (plain_run s).cause
+
+-- Each call has a line, and no instruction.
+abbrev pub each_call : Choice
+each_call = record {
+  instructions = false;
+  from = 0;
+  to = 18446744073709551615;
+  at = None;
+  writes = None;
+  reads = None;
+  file = None;
+  last = None;
+}
 
 -- What was written before an error: a prefix of the text.
 abbrev pub BreaksTrace : List ℕ → TraceFault → Output → Output → Type 0

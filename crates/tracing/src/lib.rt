@@ -9,5 +9,5 @@ mod trace;
 mod walk;
 
 pub use fault::TraceFault;
-pub use trace::write_trace;
+pub use trace::{call_trace, write_trace};
 pub use trace_filters::{CellRange, Choice};

@@ -4,7 +4,7 @@ ghost use Rattle.std.specs.Prelude.{◌≡◌, ◌-◌, IfErr, IfOk, OnOk, drop,
 ghost use Rattle.machine.specs.PlainState.{plain_run};
 ghost use Rattle.streams.specs.Pushing.{PushesUnless};
 ghost use Rattle.streams.specs.Streams.{WritesWhole};
-ghost use Rattle.tracing.specs.Trace.{BreaksTrace, all_lines, last_lines, trace_text};
+ghost use Rattle.tracing.specs.Trace.{BreaksTrace, all_lines, each_call, last_lines, trace_text};
 ghost use Rattle.tracing.specs.Walks.{IsEnd, text_after};
 
 use crate::fault::TraceFault;
@@ -12,7 +12,7 @@ use crate::walk::{Walker, walk};
 use machine::{Cause, Noting, Run, Session};
 use report_lines::stop_line;
 use std::alloc::{AllocError, Global};
-use streams::{Failed, Text, TextOver, Writer};
+use streams::{Failed, Over, Text, TextOver, Writer};
 use trace_filters::Choice;
 
 // A writer that takes everything and keeps nothing.
@@ -133,4 +133,29 @@ pub fn write_trace<W: Writer>(
     text.finish()?;
     pushed?;
     Ok(())
+}
+
+/// Returns the lines of the calls of a session, in order, and then the line of its stop.
+///
+/// # Errors
+///
+/// Returns `Err` if an allocation fails.
+pub fn call_trace(alloc: Global, session: &Session) -> Result<Vec<u8>, AllocError>
+    ensures { IfOk result (λ text. text.items ≡ trace_text each_call session.now) }
+{
+    let each_call = Choice {
+        instructions: false,
+        from: 0,
+        to: u64::MAX,
+        at: None,
+        writes: None,
+        reads: None,
+        file: None,
+        last: None,
+    };
+    let mut text = Over::new(Vec::new(alloc));
+    match write_trace(alloc, session, &each_call, &mut text) {
+        Ok(()) => Ok(text.into_inner()),
+        Err(_) => Err(AllocError),
+    }
 }

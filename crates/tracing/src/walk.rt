@@ -14,12 +14,9 @@ ghost use Rattle.tracing.specs.Walks.{EndsAt, GoesBy, IsEnd, WalksOn, kept_line,
 
 use machine::{Cause, Run, STEP_LIMIT, Session};
 use std::alloc::AllocError;
-use streams::Text;
+use streams::{STEPS_UNTIL_TEXT, Text};
 use trace_filters::{Choice, Trials, has_line};
 use trace_lines::{Code, push_call_end, push_call_start, push_changes, step_start};
-
-/// After this many steps, the lines that are there are sent.
-const STEPS_UNTIL_TEXT: u64 = 1_000_000;
 
 /// What a walk keeps from step to step.
 #[derive(Drop)]

@@ -11,6 +11,7 @@ loop-name-init g c = (
   c.new-listing.ensures.drive,
   refl,
   none_listed_if_told (drive_number c.args.drive) c.args.folder.now _ _ (g.S.FileSystem.files c.args.system.now).bytes c.new-listing.ensures.files c.new-listing.ensures.duplicate,
+  c.new-listing.ensures.lower ∙ c.prefers_lower.ensures,
 )
 
 pub loop-name-preserved : goal.loop-name-preserved
@@ -20,6 +21,7 @@ loop-name-preserved g c = (
   further (drive_number c.args.drive) c.args.folder.now _ _ c.as_str.result.now (g.S.FileSystem.files c.args.system.now).bytes c.args.names.now c.loop-name.name-index c.name-item.result
       (drive_number c.loop-name.listing.drive) _ _ c.loop-name-test.true c.name-item.is c.as_str.ensures.value (ap drive_number c.loop-name.invariant.0) c.loop-name.invariant.2
       (rw c.loop-name.invariant.1 at c.in_ok-add_file.ensures.lists),
+  c.add_file.ensures.lower ∙ c.loop-name.invariant.3,
 )
 
 pub returns-in_err-add_file-clause-unchanged : goal.returns-in_err-add_file-clause-unchanged
@@ -37,6 +39,7 @@ returns-in_err-add_file-clause-fault g c =
 pub returns : goal.returns
 returns g c = record {
   drive = c.loop-name.invariant.0;
+  lower = c.loop-name.invariant.3;
   lists = all_listed (drive_number c.args.drive) c.args.folder.now _ _ (g.S.FileSystem.files c.args.system.now).bytes c.args.names.now c.loop-name.name-index _ c.loop-name-test.false
       (same_names (g.S.FileSystem.files c.args.system.now).bytes _) c.loop-name.invariant.2;
   fault = tt;

@@ -1,80 +1,87 @@
-use Rattle.std.proofs.Common.{◌≡◌, ◌≢◌, ◌∙◌, ap, sym, refl, subst, length, slice_index, IfSome, ◌+◌, rules}
-use Rattle.std.specs.Option.{option_map}
+use Rattle.std.proofs.Common.{◌≡◌, ◌∙◌, length, lit≤, refl, rules}
 use Rattle.std.proofs.lemmas.Result.{err_from_is_err_and}
-use Rattle.folders.specs.Faults.{FailsBy}
-use Rattle.folders.specs.Folders.{AreFromFolder, FailsFolder, KeepsFilesWhere, folder_of}
-use Rattle.folders.proofs.FaultLemmas.{before_still}
-use Rattle.folders.proofs.FilesLemmas.{keeps_err, keeps_same, same_files}
-use Rattle.folders.proofs.ReadLemmas.{ReadBelow, number_in, none_read, one_read, none_more, all_drives, nothing_yet}
+use Rattle.folders.proofs.FilesLemmas.{same_files}
+use Rattle.folders.proofs.ReadLemmas.{all_drives, none_read, nothing_yet}
 use Rattle.folders.proofs.reading.read_folders.Goals as goal
-use Rattle.folders.proofs.reading.read_folders.Goals.{in-Some+in_ok-read_folder, in_default}
 
-pub loop-drive-init : goal.loop-drive-init
-loop-drive-init g c =
-    (refl, none_read (g.S.FileSystem.files c.args.system.now) c.args.folders.now c.new-files.result c.new-files.ensures)
+pub read_drive-requires : goal.read_drive-requires
+read_drive-requires g c =
+    let files = g.S.FileSystem.files c.args.system.now in
+    nothing_yet files c.args.folders.now 0 c.new-files.result (none_read files c.args.folders.now c.new-files.result c.new-files.ensures)
 
-pub read_folder-requires : goal.read_folder-requires
-read_folder-requires g c =
-    let drive = c.loop-drive.drive-index in
-    let same = number_in drive c.loop-drive-test.true in
-    λ k on. nothing_yet (g.S.FileSystem.files c.args.system.now) c.args.folders.now drive c.loop-drive.files c.loop-drive.invariant.1 k (on ∙ same)
-
-pub returns-in_err-read_folder-clause-unchanged : goal.returns-in_err-read_folder-clause-unchanged
-returns-in_err-read_folder-clause-unchanged g c =
-    let left = err_from_is_err_and c.from_residual.result c.from_residual.ensures.1 in
-    rw (left.1, left.2) (keeps_err c.loop-drive.invariant.0 c.in_err-read_folder.ensures.unchanged)
-
-pub returns-in_err-read_folder-clause-fault : goal.returns-in_err-read_folder-clause-fault
-returns-in_err-read_folder-clause-fault g c =
+pub returns-in_err-a-clause-fault : goal.returns-in_err-a-clause-fault
+returns-in_err-a-clause-fault g c =
     let files = g.S.FileSystem.files c.args.system.now in
     let folders = c.args.folders.now in
-    let drive = c.loop-drive.drive-index in
-    let folder = c.in-Some.folder.now in
-    let same = number_in drive c.loop-drive-test.true in
-    let now = c.read_folder.new.files in
-    let at : folder_of folders drive ≡ folder_of folders c.number.result = ap (folder_of folders) (sym (c.number.ensures.number ∙ same)) in
     let left = err_from_is_err_and c.from_residual.result c.from_residual.ensures.1 in
-    rw (left.1, left.2) (record {
-      drive = drive;
-      folder = folder;
-      here = at ∙ ap (option_map (λ s. s.now)) c.in-Some.is;
-      host = now;
-      before = before_still files folders drive c.loop-drive.files now c.loop-drive.invariant.1
-          (subst (λ d. KeepsFilesWhere (λ k. slice_index k 0 ≢ d) c.loop-drive.files now) same c.read_folder.ensures.others);
-      fails = subst (λ d. FailsBy (FailsFolder files d folder now) c.in_err-read_folder.field-0.0) same
-          (rw c.loop-drive.invariant.0 at c.in_err-read_folder.ensures.fault);
-    })
+    rw (left.1, left.2) (c.in_err-a.ensures.fault folders refl (none_read files folders c.new-files.result c.new-files.ensures))
 
-pub loop-drive-preserved : goal.loop-drive-preserved
-loop-drive-preserved g c =
+pub read_drive-requires-2 : goal.read_drive-requires-2
+read_drive-requires-2 g c =
     let files = g.S.FileSystem.files c.args.system.now in
     let folders = c.args.folders.now in
-    let drive = c.loop-drive.drive-index in
-    let same = number_in drive c.loop-drive-test.true in
-    let at : folder_of folders drive ≡ folder_of folders c.number.result = ap (folder_of folders) (sym (c.number.ensures.number ∙ same)) in
-    elim c.match-folders-number.branch [
-      | in-Some+in_ok-read_folder w ↦ (
-        rw w.system-is (same_files w.in_ok-read_folder.ensures.unchanged ∙ c.loop-drive.invariant.0),
-        subst (ReadBelow files folders (drive + 1)) (sym w.files-is)
-            (one_read files folders drive w.in-Some.folder.now c.loop-drive.files w.read_folder.new.files c.loop-drive.invariant.1
-            (at ∙ ap (option_map (λ s. s.now)) w.in-Some.is)
-            (subst (λ d. KeepsFilesWhere (λ k. slice_index k 0 ≢ d) c.loop-drive.files w.read_folder.new.files) same w.read_folder.ensures.others)
-            (subst (λ d. IfSome files.bytes (λ stored. AreFromFolder stored (files.names w.in-Some.folder.now) d w.in-Some.folder.now w.read_folder.new.files)) same
-            (rw c.loop-drive.invariant.0 at w.in_ok-read_folder.ensures.read))),
-      )
-      | in_default w ↦ (
-        rw w.system-is c.loop-drive.invariant.0,
-        subst (ReadBelow files folders (drive + 1)) (sym w.files-is)
-            (none_more files folders drive c.loop-drive.files c.loop-drive.invariant.1 (at ∙ ap (option_map (λ s. s.now)) w.in_default.is)),
-      )
-    ]
+    let a = c.in_ok-a.ensures.read folders refl (none_read files folders c.new-files.result c.new-files.ensures) in
+    nothing_yet files folders 1 c.read_drive.new.files a
 
-pub returns : goal.returns
-returns g c = record {
-  files =
-      let four : length c.args.folders.now ≡ 4 = search rules in
-      all_drives (g.S.FileSystem.files c.args.system.now) c.args.folders.now c.loop-drive.drive-index c.loop-drive.files four
-      c.loop-drive-test.false c.loop-drive.invariant.1;
-  fault = tt;
-  unchanged = keeps_same _ _ _ _ c.loop-drive.invariant.0;
-}
+pub returns-in_err-b-clause-fault : goal.returns-in_err-b-clause-fault
+returns-in_err-b-clause-fault g c =
+    let files = g.S.FileSystem.files c.args.system.now in
+    let folders = c.args.folders.now in
+    let first = same_files c.in_ok-a.ensures.unchanged in
+    let a = c.in_ok-a.ensures.read folders refl (none_read files folders c.new-files.result c.new-files.ensures) in
+    let left = err_from_is_err_and c.from_residual-in_err-b.result c.from_residual-in_err-b.ensures.1 in
+    rw (left.1, left.2) ((rw first at c.in_err-b.ensures.fault) folders refl a)
+
+pub read_drive-requires-3 : goal.read_drive-requires-3
+read_drive-requires-3 g c =
+    let files = g.S.FileSystem.files c.args.system.now in
+    let folders = c.args.folders.now in
+    let first = same_files c.in_ok-a.ensures.unchanged in
+    let a = c.in_ok-a.ensures.read folders refl (none_read files folders c.new-files.result c.new-files.ensures) in
+    let b = (rw first at c.in_ok-b.ensures.read) folders refl a in
+    nothing_yet files folders 2 c.read_drive-2.new.files b
+
+pub returns-in_err-c-clause-fault : goal.returns-in_err-c-clause-fault
+returns-in_err-c-clause-fault g c =
+    let files = g.S.FileSystem.files c.args.system.now in
+    let folders = c.args.folders.now in
+    let first = same_files c.in_ok-a.ensures.unchanged in
+    let second = same_files c.in_ok-b.ensures.unchanged ∙ first in
+    let a = c.in_ok-a.ensures.read folders refl (none_read files folders c.new-files.result c.new-files.ensures) in
+    let b = (rw first at c.in_ok-b.ensures.read) folders refl a in
+    let left = err_from_is_err_and c.from_residual-in_err-c.result c.from_residual-in_err-c.ensures.1 in
+    rw (left.1, left.2) ((rw second at c.in_err-c.ensures.fault) folders refl b)
+
+pub read_drive-requires-4 : goal.read_drive-requires-4
+read_drive-requires-4 g c =
+    let files = g.S.FileSystem.files c.args.system.now in
+    let folders = c.args.folders.now in
+    let first = same_files c.in_ok-a.ensures.unchanged in
+    let second = same_files c.in_ok-b.ensures.unchanged ∙ first in
+    let a = c.in_ok-a.ensures.read folders refl (none_read files folders c.new-files.result c.new-files.ensures) in
+    let b = (rw first at c.in_ok-b.ensures.read) folders refl a in
+    nothing_yet files folders 3 c.read_drive-3.new.files ((rw second at c.in_ok-c.ensures.read) folders refl b)
+
+pub returns-in_err-d-clause-fault : goal.returns-in_err-d-clause-fault
+returns-in_err-d-clause-fault g c =
+    let files = g.S.FileSystem.files c.args.system.now in
+    let folders = c.args.folders.now in
+    let first = same_files c.in_ok-a.ensures.unchanged in
+    let second = same_files c.in_ok-b.ensures.unchanged ∙ first in
+    let third = same_files c.in_ok-c.ensures.unchanged ∙ second in
+    let a = c.in_ok-a.ensures.read folders refl (none_read files folders c.new-files.result c.new-files.ensures) in
+    let b = (rw first at c.in_ok-b.ensures.read) folders refl a in
+    let left = err_from_is_err_and c.from_residual-in_err-d.result c.from_residual-in_err-d.ensures.1 in
+    rw (left.1, left.2) ((rw third at c.in_err-d.ensures.fault) folders refl ((rw second at c.in_ok-c.ensures.read) folders refl b))
+
+pub returns-clause-files : goal.returns-clause-files
+returns-clause-files g c =
+    let files = g.S.FileSystem.files c.args.system.now in
+    let folders = c.args.folders.now in
+    let first = same_files c.in_ok-a.ensures.unchanged in
+    let second = same_files c.in_ok-b.ensures.unchanged ∙ first in
+    let third = same_files c.in_ok-c.ensures.unchanged ∙ second in
+    let a = c.in_ok-a.ensures.read folders refl (none_read files folders c.new-files.result c.new-files.ensures) in
+    let b = (rw first at c.in_ok-b.ensures.read) folders refl a in
+    let four : length folders ≡ 4 = search rules in
+    all_drives files folders 4 c.read_drive-4.new.files four (lit≤ tt) ((rw third at c.in_ok-d.ensures.read) folders refl ((rw second at c.in_ok-c.ensures.read) folders refl b))

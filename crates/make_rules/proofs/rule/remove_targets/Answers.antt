@@ -1,4 +1,4 @@
-use Rattle.std.proofs.Common.{◌≡◌, ◌∙◌, List, [], ◌∷◌, Bool, String, filter, map, string_bytes, inl, inr, ap, refl, rules}
+use Rattle.std.proofs.Common.{◌≡◌, ◌∙◌, List, [], ◌∷◌, Bool, filter, map, string_bytes, inl, inr, ap, refl, rules}
 use Rattle.std.proofs.lemmas.Bool.{cases_Bool}
 use Rattle.std.proofs.lemmas.Fn.{filter_same}
 use Rattle.make_rules.specs.Files.{is_other}

@@ -1,7 +1,7 @@
 use Rattle.std.proofs.Common.{◌≡◌, ◌∙◌, None, arith, false, rules, sym, true}
 use Rattle.machine.specs.Runs.{EndsBy}
 use Rattle.streams.proofs.Pushes.{unless_failed, whole_part}
-use Rattle.one_run.specs.RunsOnce.{console_text}
+use Rattle.one_run.specs.RunTexts.{console_text}
 use Rattle.one_run.proofs.TextPieces.{all_pushed, itself, more_pushed, notes_next, rest_left, stops_within}
 use Rattle.one_run.proofs.running.push_console.Goals as goal
 

@@ -2,7 +2,7 @@ use Rattle.std.proofs.Common.{◌≡◌, ◌≤◌, IfSome, Some, take}
 use Rattle.machine.specs.Machine.{session_answers}
 use Rattle.machine.specs.Runs.{StopsBelow, asked_by}
 use Rattle.streams.specs.Pushing.{more}
-use Rattle.one_run.specs.RunsOnce.{console_text}
+use Rattle.one_run.specs.RunTexts.{console_text}
 use Rattle.one_run.proofs.TextPieces as pieces
 use Rattle.one_run.proofs.running.push_console.Given as goal
 

@@ -2,7 +2,7 @@ use Rattle.std.proofs.Common.{ℕ, rules, subst, take}
 use Rattle.std.proofs.lemmas.Result.{err_from_is_err_and}
 use Rattle.streams.specs.Streams.{Output, WritesPart, WritesWhole}
 use Rattle.streams.proofs.WrittenPieces.{all_written, part_written}
-use Rattle.one_run.specs.RunsOnce.{console_text}
+use Rattle.one_run.specs.RunTexts.{console_text}
 use Rattle.one_run.proofs.running.write_console.Goals as goal
 
 pub returns-in_err-finish-clause-fault : goal.returns-in_err-finish-clause-fault

@@ -1,4 +1,4 @@
-use Rattle.std.proofs.Common.{◌∙◌, ◌++◌, ap, sym, codes}
+use Rattle.std.proofs.Common.{◌∙◌, ◌++◌, ap, sym, codes, string_bytes}
 use Rattle.std.proofs.Output.{has_written_of_eq}
 use Rattle.std.proofs.lemmas.List.{append_assoc}
 use Rattle.std.specs.Fmt.{decimal}
@@ -10,3 +10,10 @@ pub returns-in-Refused-clause-writes : goal.returns-in-Refused-clause-writes
 returns-in-Refused-clause-writes g c =
     let parts = ap (λ t. codes "file " ++ t) (sym (append_assoc (display_text c.in-Refused.name) (codes " refused ") (decimal c.in-Refused.number))) in
     λ p k. has_written_of_eq _ _ _ _ _ (parts ∙ ap text_of (sym c.in-Refused.is)) (c.write-in-Refused.ensures.writes p k)
+
+pub returns-in-CannotMove-clause-writes : goal.returns-in-CannotMove-clause-writes
+returns-in-CannotMove-clause-writes g c =
+    let path = string_bytes c.in-CannotMove.path in
+    let other = string_bytes c.in-CannotMove.other in
+    let parts = ap (λ t. codes "cannot write " ++ t) (sym (append_assoc path (codes ": its contents are in ") other)) in
+    λ p k. has_written_of_eq _ _ _ _ _ (parts ∙ ap text_of (sym c.in-CannotMove.is)) (c.write-in-CannotMove.ensures.writes p k)

@@ -1,0 +1,90 @@
+-- What a run reports into files: a rule for make, and a trace. (This project's profile.)
+use Rattle.std.specs.Prelude.{◌≡◌, ℕ, Bool, true, false, [], ◌∷◌, ◌++◌, List, Option, Some, None, IfSome, get_or, map, unwrap_or}
+use Rattle.std.specs.Borrow.{Bor}
+use Rattle.std.specs.List.{flat_map}
+use Rattle.command_words.specs.RunLine.{session_words}
+use Rattle.command_words.specs.declared.words.Words.{Words}
+use Rattle.folders.specs.FileSystem.{FileBytes, IsFree, Path}
+use Rattle.folders.specs.declared.listing.Listing.{Listing}
+use Rattle.machine.specs.Inputs.{Session}
+use Rattle.make_rules.specs.RefusedPaths.{refuses_rule}
+use Rattle.make_rules.specs.RunRules.{IsRule}
+use Rattle.plan.specs.Wanted.{Wanted, wanted}
+use Rattle.requests.specs.declared.fault.Fault.{Fault}
+use Rattle.requests.specs.declared.fault.Fault.TheVariants.{Folders, OutOfMemory, Usage}
+use Rattle.tracing.specs.Trace.{each_call, trace_text}
+use Rattle.cpmrun.specs.declared.reports.Report.{Report}
+
+-- The path of a report, and its text.
+abbrev pub Told : Type 0
+Told = Path × List ℕ
+
+abbrev pub told : Report → Told
+told report = (report.path.now, report.text.items)
+
+-- The path of a rule that is asked whether a rule can have it: the target of the words, or else the file of the rule.
+abbrev pub rule_path : Words → Bor Path → Bor Path
+rule_path w path = unwrap_or w.target path
+
+-- The folders that are written, as a rule may have to name them: those for changed files, and the disks.
+abbrev pub written_folders : Words → List (Option (Bor Path))
+written_folders w = map (λ drive. get_or w.out drive None) (0 ∷ 1 ∷ 2 ∷ 3 ∷ []) ++ map (λ drive. get_or w.disk drive None) (0 ∷ 1 ∷ 2 ∷ 3 ∷ [])
+
+-- A rule can have the paths of the words, if they ask for one.
+abbrev pub AllowsRule : Words → Type 0
+AllowsRule w = IfSome w.deps (λ path. refuses_rule (session_words w) (rule_path w path) (written_folders w) ≡ false)
+
+-- The paths of the files that are put in place.
+abbrev pub put_path : Path → Option (List ℕ) → List Path
+put_path path None = []
+put_path path (Some bytes) = path ∷ []
+
+abbrev pub put_paths : List Wanted → List Path
+put_paths plan = flat_map (λ w. put_path w.path w.contents) plan
+
+-- The targets of a rule: the one of the words, or else the files that are put in place, or the file of the rule if there are none.
+abbrev pub or_rule : Path → List Path → List Path
+or_rule path [] = path ∷ []
+or_rule path (target ∷ targets) = target ∷ targets
+
+abbrev pub chosen : Option (Bor Path) → List Path → List Path
+chosen None paths = paths
+chosen (Some target) paths = target.now ∷ []
+
+abbrev pub targets_of : Words → Path → List Path → List Path
+targets_of w path written = chosen w.target (or_rule path written)
+
+-- The rule that the words ask for, of a run that puts these files in place; or none.
+abbrev pub IsRuleAt : Words → List (Option Listing) → List Path → Session → Option (Bor Path) → Option Told → Type 0
+IsRuleAt w listings written s None None = Unit {0}
+IsRuleAt w listings written s None (Some report) = ⊥
+IsRuleAt w listings written s (Some path) None = ⊥
+IsRuleAt w listings written s (Some path) (Some (p, text)) = (p ≡ path.now) × IsRule (session_words w) (targets_of w path.now written) listings s text
+
+abbrev pub IsRuleOf : Words → List (Option Listing) → List Path → Session → Option Told → Type 0
+IsRuleOf w listings written s rule = IsRuleAt w listings written s w.deps rule
+
+-- The trace that the words ask for, or none.
+abbrev pub trace_at : Session → Option (Bor Path) → Option Told
+trace_at s None = None
+trace_at s (Some path) = Some (path.now, trace_text each_call s)
+
+abbrev pub IsTraceOf : Words → Session → Option Told → Type 0
+IsTraceOf w s trace = trace ≡ trace_at s w.trace
+
+-- What a report adds to a plan, if it is part of it.
+abbrev pub report_part : Bool → Option Told → List Wanted
+report_part true (Some (path, text)) = wanted path None (Some text) ∷ []
+report_part planned report = []
+
+-- No regular file is at the path of a report.
+abbrev pub IsElsewhere : Option Told → Option FileBytes → Type 0
+IsElsewhere None files = Unit {0}
+IsElsewhere (Some (path, text)) files = IsFree path files
+
+-- An error of looking at paths, before a file is changed: something cannot be read or written, a usage error, or no memory.
+abbrev pub IsEarly : Fault → Type 0
+IsEarly (Usage text) = Unit {0}
+IsEarly (Folders f) = Unit {0}
+IsEarly OutOfMemory = Unit {0}
+IsEarly fault = ⊥

@@ -1,0 +1,166 @@
+-- One run of the session of the words: what it writes and changes, its status, and what an error leaves. (This project's profile.)
+use Rattle.std.specs.Prelude.{◌≡◌, ℕ, ◌⊎◌, ◌||◌, ◌++◌, Bool, true, false, if◌then◌else◌, List, Option, Result, MatchOption, Ok, Err, is_some, map}
+use Rattle.std.specs.List.{list_any}
+use Rattle.command_words.specs.RunLine.{session_words}
+use Rattle.command_words.specs.declared.words.Words.{Words}
+use Rattle.folders.specs.ChangedBytes.{written_bytes}
+use Rattle.folders.specs.DriveFolders.{AreListings, folders_with, seen}
+use Rattle.folders.specs.Faults.{FailsBy}
+use Rattle.folders.specs.FileSystem.{FileBytes}
+use Rattle.folders.specs.declared.contents.Written.{Written}
+use Rattle.folders.specs.declared.fault.Failure.{Failure}
+use Rattle.folders.specs.declared.listing.Listing.{Listing}
+use Rattle.folders.specs.declared.places.Places.{Places}
+use Rattle.hostfiles.specs.Hosts.{Host}
+use Rattle.loading.specs.Loading.{IsLoadedFrom}
+use Rattle.machine.specs.Cause.{Cause}
+use Rattle.machine.specs.Cause.TheVariants.{WarmBoot}
+use Rattle.machine.specs.Inputs.{Session}
+use Rattle.machine.specs.PlainFiles.{Files}
+use Rattle.machine.specs.PlainState.{plain_run}
+use Rattle.make_rules.specs.RefusedPaths.{FailsPaths}
+use Rattle.make_rules.specs.declared.fault.RuleFault.{RuleFault}
+use Rattle.one_run.specs.Planned.{places_at, planned}
+use Rattle.one_run.specs.RunTexts.{BreaksText, console_text, stop_status, stop_text}
+use Rattle.one_run.specs.World.{World}
+use Rattle.one_run.specs.declared.fault.RunFault.{RunFault}
+use Rattle.one_run.specs.declared.fault.RunFault.TheVariants as run
+use Rattle.one_run.specs.declared.planning.Turn.TheVariants.{Outside, New, Replacing, Gone}
+use Rattle.plan.specs.Carries.{Carries, CarriesEach}
+use Rattle.plan.specs.Faults.{IsAnyWriteFault}
+use Rattle.plan.specs.Wanted.{Wanted, wanted_of}
+use Rattle.plan.specs.declared.deed.Deed.{Deed}
+use Rattle.requests.specs.FaultReports.{of_failure}
+use Rattle.requests.specs.Requests.{FailsToLoadSession, WritesNothing}
+use Rattle.requests.specs.RuleFaults.{of_rule}
+use Rattle.requests.specs.declared.fault.Fault.{Fault}
+use Rattle.requests.specs.declared.fault.Fault.TheVariants.{CannotWrite, DiskUnchanged, OutOfMemory}
+use Rattle.streams.specs.Streams.{WritesOrFails, WritesWhole}
+use Rattle.cpmrun.specs.Reports.{IsEarly, IsElsewhere, IsRuleOf, IsTraceOf, Told, put_paths, report_part, rule_path, written_folders}
+
+-- Whether the run changes the disks: it stopped by the warm start, or the words ask for it whatever the stop.
+abbrev pub is_warm : Cause → Bool
+is_warm WarmBoot = true
+is_warm cause = false
+
+abbrev pub changes_disks : Words → Cause → Bool
+changes_disks w cause = w.partial || is_warm cause
+
+-- The places of the words, with the names that the folders have at the start.
+pub record ArePlaces (w : Words) (listings : List (Option Listing)) (p : Places) : Type 0 where
+  pub out : p.out ≡ w.out
+  pub disks : map seen p.disks ≡ folders_with w.disk listings
+
+-- These places, or those of them that are no disks.
+abbrev pub ArePlacesOf : Words → List (Option Listing) → Places → Type 0
+ArePlacesOf w listings p = (all : Places) × (changes : Bool) × ArePlaces w listings all × (p ≡ places_at changes all)
+
+-- ---- the plan
+
+-- What is put onto disks: new files, and then files that replace others.
+abbrev pub disk_puts : Places → Host → Files → List Wanted
+disk_puts p host files = planned New p host files ++ planned Replacing p host files
+
+-- All that is put in place: outside of disks, and then onto disks.
+abbrev pub puts : Places → Host → Files → List Wanted
+puts p host files = planned Outside p host files ++ disk_puts p host files
+
+-- The plan for disks: that, then the reports that are part of it, and the files that are gone are removed last.
+pub record IsWhole (p : Places) (host : Host) (files : Files) (rule trace : Option Told) (before : Option FileBytes) (plan : List Wanted) : Type 0 where
+  pub with_rule : Bool
+  pub with_trace : Bool
+  pub rule_apart : with_rule ≡ false → IsElsewhere rule before
+  pub trace_apart : with_trace ≡ false → IsElsewhere trace before
+  pub is : plan ≡ disk_puts p host files ++ report_part with_rule rule ++ report_part with_trace trace ++ planned Gone p host files
+
+abbrev pub asked : List (Deed Written) → List Wanted
+asked deeds = map (wanted_of written_bytes) deeds
+
+-- The files outside of disks were written one after another, or this broke off.
+pub record WritesOutside (p : Places) (host : Host) (files : Files) (before after : Option FileBytes) (result : Result (Unit {0}) Failure) : Type 0 where
+  pub deeds : List (Deed Written)
+  pub outside : asked deeds ≡ planned Outside p host files
+  pub carried : CarriesEach written_bytes deeds before after result
+
+-- They were, and then the plan for disks was carried out, or broke off.
+pub record CarriesPlan (p : Places) (host : Host) (files : Files) (rule trace : Option Told) (before after : Option FileBytes) (result : Result (Unit {0}) Failure) : Type 0 where
+  pub middle : Option FileBytes
+  pub outside : WritesOutside p host files before middle (Ok tt)
+  pub deeds : List (Deed Written)
+  pub whole : IsWhole p host files rule trace before (asked deeds)
+  pub carried : Carries written_bytes deeds middle after result
+
+-- Why files were not changed as planned: there is no plan, and nothing was changed; or writing outside of disks or the plan for disks broke
+-- off; or all was carried out, and a report was not written into what is no regular file.
+abbrev pub BreaksPlan : Places → Host → Files → Option Told → Option Told → Option FileBytes → Option FileBytes → Fault → Type 0
+BreaksPlan p host files rule trace before after fault =
+    (IsEarly fault × (after ≡ before))
+    ⊎ ((f : Failure) × (fault ≡ of_failure f) × (WritesOutside p host files before after (Err f) ⊎ CarriesPlan p host files rule trace before after (Err f)))
+    ⊎ ((f : Failure) × (fault ≡ of_failure f) × FailsBy IsAnyWriteFault f × CarriesPlan p host files rule trace before after (Ok tt))
+
+-- ---- the run
+
+-- The reports that the words ask for.
+pub record AreReports (w : Words) (listings : List (Option Listing)) (s : Session) (p : Places) (rule trace : Option Told) : Type 0 where
+  pub rule_is : IsRuleOf w listings (put_paths (puts p s.files (plain_run s).state.files)) s rule
+  pub trace_is : IsTraceOf w s trace
+
+-- The files were changed by the plan of the run, and its reports were written.
+pub record ChangesFiles (w : Words) (listings : List (Option Listing)) (s : Session) (p : Places) (before after : Option FileBytes) : Type 0 where
+  pub rule : Option Told
+  pub trace : Option Told
+  pub reports : AreReports w listings s p rule trace
+  pub carries : CarriesPlan p s.files (plain_run s).state.files rule trace before after (Ok tt)
+
+-- This broke off.
+abbrev pub BreaksChanges : Words → List (Option Listing) → Session → Places → Option FileBytes → Option FileBytes → Fault → Type 0
+BreaksChanges w listings s p before after fault =
+    (IsEarly fault × (after ≡ before))
+    ⊎ ((rule : Option Told) × (trace : Option Told) × AreReports w listings s p rule trace × BreaksPlan p s.files (plain_run s).state.files rule trace before after fault)
+
+-- The session was run: its console text was written, then the files were changed, on the disks only if the run changes them, and then the
+-- stop was reported, or a prefix of that if writing failed.
+pub record Runs (w : Words) (listings : List (Option Listing)) (s : Session) (status : ℕ) (before after : World) : Type 0 where
+  pub places : Places
+  pub are : ArePlaces w listings places
+  pub exits : status ≡ stop_status (plain_run s).cause
+  pub written : WritesWhole before.out after.out (console_text s)
+  pub files : ChangesFiles w listings s (places_at (changes_disks w (plain_run s).cause) places) before.files.bytes after.files.bytes
+  pub reported : WritesOrFails before.err after.err (stop_text places (changes_disks w (plain_run s).cause) s)
+
+-- The error for a console text that was not written in full.
+abbrev pub has_disks : Words → Bool
+has_disks w = list_any is_some w.disk
+
+abbrev pub of_run : Words → RunFault → Fault
+of_run w run.CannotWrite = if has_disks w then DiskUnchanged else CannotWrite
+of_run w run.OutOfMemory = OutOfMemory
+
+-- What an error leaves: nothing was written; or a prefix of the console text, and the files unchanged; or all of the text, and files that were
+-- not changed as the run asks.
+abbrev pub BreaksRun : Words → List (Option Listing) → Session → World → World → Fault → Type 0
+BreaksRun w listings s before after fault =
+    (IsEarly fault × WritesNothing before after)
+    ⊎ ((f : RunFault) × (fault ≡ of_run w f) × BreaksText (console_text s) before.out after.out f × (after.files.bytes ≡ before.files.bytes))
+    ⊎ (WritesWhole before.out after.out (console_text s) × ((p : Places) × ArePlaces w listings p
+    × BreaksChanges w listings s (places_at (changes_disks w (plain_run s).cause) p) before.files.bytes after.files.bytes fault))
+
+-- The session of the words was loaded and run.
+pub record RunsWords (w : Words) (status : ℕ) (before after : World) : Type 0 where
+  pub s : Session
+  pub listings : List (Option Listing)
+  pub of : IsLoadedFrom before.files (session_words w) s
+  pub listed : AreListings before.files (session_words w).files listings
+  pub runs : Runs w listings s status before after
+
+-- A rule for make cannot have a path of the words.
+abbrev pub RefusesRule : Words → Fault → Type 0
+RefusesRule w fault = (f : RuleFault) × (fault ≡ of_rule f) × MatchOption w.deps ⊥ (λ path. FailsPaths (session_words w) (rule_path w path) (written_folders w) f)
+
+-- An error of such words: before a session is loaded, of loading it, or of its run.
+abbrev pub BreaksWords : Words → World → World → Fault → Type 0
+BreaksWords w before after fault =
+    ((IsEarly fault ⊎ RefusesRule w fault) × WritesNothing before after)
+    ⊎ FailsToLoadSession (session_words w) before after fault
+    ⊎ ((s : Session) × (listings : List (Option Listing)) × IsLoadedFrom before.files (session_words w) s × AreListings before.files (session_words w).files listings
+    × BreaksRun w listings s before after fault)

@@ -1,0 +1,276 @@
+// What a run reports into files: a rule for make, and a trace.
+
+ghost use Rattle.std.specs.Prelude.{◌≡◌, ◌++◌, IfErr, IfOk, OnOk, false, is_some, map, option_map, string_bytes, true};
+ghost use Rattle.std.specs.List.{list_all};
+ghost use Rattle.dependencies.specs.Dependencies.{AreDependencies};
+ghost use Rattle.folders.specs.ChangedBytes.{written_bytes};
+ghost use Rattle.folders.specs.Failures.{KeepsFiles, ReportsPaths};
+ghost use Rattle.folders.specs.Faults.{FailsBy, failure_paths};
+ghost use Rattle.folders.specs.FileSystem.{IsFree};
+ghost use Rattle.make_rules.specs.Carried.{is_carried};
+ghost use Rattle.plan.specs.Faults.{IsAnyWriteFault};
+ghost use Rattle.plan.specs.Wanted.{wanted_of};
+ghost use Rattle.requests.specs.FaultReports.{file_paths};
+ghost use Rattle.cpmrun.specs.Reports as texts;
+
+use command_words::Words;
+use disks::{is_one_file, report_taken};
+use folders::{Failure, Fault as FolderFault, FileSystem, Kind, Listing, Written, write_failure};
+use machine::{Session, WholeRun};
+use make_rules::rule_of_run;
+use plan::{Before, Deed, Plan};
+use requests::{Fault, taken_fault};
+use std::alloc::{AllocError, Global};
+use tracing::call_trace;
+
+/// A text that is written to a file of the words.
+#[derive(Drop)]
+pub struct Report<'a> {
+    /// The path of the file.
+    pub path: &'a str,
+    /// The text.
+    pub text: Vec<u8>,
+}
+
+/// Adds the paths of the files that are put in place.
+pub fn push_paths(
+    alloc: Global,
+    paths: &mut Vec<String>,
+    deeds: &[Deed<'_, Written<'_>>],
+) -> Result<(), AllocError>
+    ensures { OnOk result (map string_bytes paths.new.items ≡ map string_bytes paths.old.items
+        ++ texts.put_paths (map (wanted_of written_bytes) deeds.now)) }
+{
+    for deed in deeds {
+        if let Deed::Put { path, .. } = deed {
+            paths.push(String::from_str(alloc, path.as_str())?)?;
+        }
+    }
+    Ok(())
+}
+
+// Returns the targets of a rule that is written to this path: the one of the words, or the files that are put in place, or the path of
+// the rule if there are none.
+fn targets(
+    alloc: Global,
+    words: &Words<'_>,
+    path: &str,
+    written: Vec<String>,
+) -> Result<Vec<String>, AllocError>
+    ensures { IfOk result (λ paths. map string_bytes paths.items
+        ≡ texts.targets_of words.now path.now (map string_bytes written.items)) }
+{
+    let mut targets = match words.target {
+        Some(_) => Vec::new(alloc),
+        None => written,
+    };
+    if targets.is_empty() {
+        targets.push(String::from_str(alloc, words.target.unwrap_or(path))?)?;
+    }
+    Ok(targets)
+}
+
+/// Returns the rule for make of a run that puts these files in place, if the words ask for one.
+pub fn rule_report<'a>(
+    alloc: Global,
+    words: &Words<'a>,
+    listings: &[Option<Listing>; 4],
+    written: Vec<String>,
+    run: &WholeRun<'_>,
+) -> Result<Option<Report<'a>>, AllocError>
+    requires written { is_some words.now.deps ≡ true
+        → list_all is_carried (map string_bytes written.items) ≡ true }
+    requires words { texts.AllowsRule words.now }
+    requires run { is_some words.now.deps ≡ true
+        → AreDependencies run.now.session.now run.now.looks run.now.steps run.now.cause }
+    ensures { IfOk result (λ rule. texts.IsRuleOf words.now listings.now (map string_bytes written.items)
+        run.now.session.now (option_map texts.told rule)) }
+{
+    let Some(path) = words.deps else {
+        return Ok(None);
+    };
+    let targets = targets(alloc, words, path, written)?;
+    let text = rule_of_run(alloc, targets.as_slice(), &words.session(), listings, run)?;
+    Ok(Some(Report { path, text }))
+}
+
+/// Returns the trace of the run of a session, if the words ask for it.
+pub fn trace_report<'a>(
+    alloc: Global,
+    words: &Words<'a>,
+    session: &Session,
+) -> Result<Option<Report<'a>>, AllocError>
+    ensures { IfOk result
+        (λ trace. texts.IsTraceOf words.now session.now (option_map texts.told trace)) }
+{
+    let Some(path) = words.trace else {
+        return Ok(None);
+    };
+    let text = call_trace(alloc, session)?;
+    Ok(Some(Report { path, text }))
+}
+
+/// Plans a report, if what is at its path is a regular file, or nothing. Returns whether it did.
+pub fn plan_report<'p, S: FileSystem>(
+    system: &mut S,
+    plan: &mut Plan<'p, Written<'p>>,
+    report: &'p Option<Report<'_>>,
+) -> Result<bool, Failure>
+    ensures planned { IfOk result (λ planned. map (wanted_of written_bytes) plan.new.deeds.items
+        ≡ map (wanted_of written_bytes) plan.old.deeds.items
+        ++ texts.report_part planned (option_map texts.told report.entry.now)) }
+    ensures apart { IfOk result (λ planned. planned ≡ false
+        → texts.IsElsewhere (option_map texts.told report.entry.now) (S.files system.old).bytes) }
+    ensures fault { IfErr result (FailsBy IsAnyWriteFault) }
+    ensures unchanged { KeepsFiles failure_paths result (S.files system.old) (S.files system.new) }
+{
+    let Some(report) = report else {
+        return Ok(false);
+    };
+    let Ok(path) = String::from_str(system.alloc(), report.path) else {
+        return Err(Failure::OutOfMemory);
+    };
+    match system.kind(report.path) {
+        Ok(Kind::Other) => Ok(false),
+        Ok(_) => {
+            plan.put(
+                system,
+                path,
+                Before::Any,
+                Written::Text(report.text.as_slice()),
+            )?;
+            Ok(true)
+        }
+        Err(error) => Err(write_failure(error, path)),
+    }
+}
+
+/// Writes a report that is not planned into what is at its path, if this is still no regular file.
+pub fn write_report<S: FileSystem>(
+    system: &mut S,
+    report: &Option<Report<'_>>,
+    planned: bool,
+) -> Result<(), Failure>
+    ensures bytes { (S.files system.new).bytes ≡ (S.files system.old).bytes }
+    ensures fault { IfErr result (FailsBy IsAnyWriteFault) }
+    ensures failed { ReportsPaths failure_paths result (S.files system.old) (S.files system.new) }
+{
+    let Some(report) = report else {
+        return Ok(());
+    };
+    if planned {
+        return Ok(());
+    }
+    let Ok(path) = String::from_str(system.alloc(), report.path) else {
+        return Err(Failure::OutOfMemory);
+    };
+    match system.kind(report.path) {
+        Ok(Kind::Other) => write_into(system, path, report.text.as_slice()),
+        Ok(_) => Err(Failure::AtFault(FolderFault::Changed(path))),
+        Err(error) => Err(write_failure(error, path)),
+    }
+}
+
+// Writes a text into what is at a path and is no regular file.
+fn write_into<S: FileSystem>(system: &mut S, path: String, text: &[u8]) -> Result<(), Failure>
+    requires { IsFree (string_bytes path) (S.files system.old).bytes }
+    ensures bytes { (S.files system.new).bytes ≡ (S.files system.old).bytes }
+    ensures fault { IfErr result (FailsBy IsAnyWriteFault) }
+    ensures failed { ReportsPaths failure_paths result (S.files system.old) (S.files system.new) }
+{
+    match system.write_into(path.as_str(), &Written::Text(text)) {
+        Ok(()) => Ok(()),
+        Err(error) => Err(write_failure(error, path)),
+    }
+}
+
+// Returns whether the file at a path is the file of a deed.
+fn is_changed<S: FileSystem>(
+    system: &mut S,
+    deeds: &[Deed<'_, Written<'_>>],
+    path: &str,
+) -> Result<bool, Failure>
+    ensures { KeepsFiles failure_paths result (S.files system.old) (S.files system.new) }
+{
+    for deed in deeds {
+        if is_one_file(system, deed.path(), path)? {
+            return Ok(true);
+        }
+    }
+    Ok(false)
+}
+
+// Checks that the file of a report, if there is one, is none that the run reads.
+fn check_unread<'a, S: FileSystem>(
+    system: &mut S,
+    words: &Words<'_>,
+    listings: &[Option<Listing>; 4],
+    option: &str,
+    report: Option<&str>,
+) -> Result<(), Fault<'a>>
+    ensures fault { IfErr result texts.IsEarly }
+    ensures unchanged { KeepsFiles file_paths result (S.files system.old) (S.files system.new) }
+{
+    let Some(path) = report else {
+        return Ok(());
+    };
+    if report_taken(system, words, listings, path)? {
+        let reason = "the run reads this file";
+        return Err(taken_fault(system.alloc(), path, option, reason));
+    }
+    Ok(())
+}
+
+/// Checks that the files of the reports are different, and none that the run reads.
+pub fn check_reports<'a, S: FileSystem>(
+    system: &mut S,
+    words: &Words<'_>,
+    listings: &[Option<Listing>; 4],
+) -> Result<(), Fault<'a>>
+    ensures fault { IfErr result texts.IsEarly }
+    ensures unchanged { KeepsFiles file_paths result (S.files system.old) (S.files system.new) }
+{
+    check_unread(system, words, listings, "--deps <FILE>", words.deps)?;
+    check_unread(system, words, listings, "--trace <FILE>", words.trace)?;
+    let (Some(deps), Some(trace)) = (words.deps, words.trace) else {
+        return Ok(());
+    };
+    if is_one_file(system, deps, trace)? {
+        let reason = "it is the file of '--trace <FILE>'";
+        return Err(taken_fault(system.alloc(), deps, "--deps <FILE>", reason));
+    }
+    Ok(())
+}
+
+// Checks that the file of a report, if there is one, is none that the run changes.
+fn check_unchanged<'a, S: FileSystem>(
+    system: &mut S,
+    deeds: &[Deed<'_, Written<'_>>],
+    option: &str,
+    report: Option<&str>,
+) -> Result<(), Fault<'a>>
+    ensures fault { IfErr result texts.IsEarly }
+    ensures unchanged { KeepsFiles file_paths result (S.files system.old) (S.files system.new) }
+{
+    let Some(path) = report else {
+        return Ok(());
+    };
+    if is_changed(system, deeds, path)? {
+        let reason = "the run changes this file";
+        return Err(taken_fault(system.alloc(), path, option, reason));
+    }
+    Ok(())
+}
+
+/// Checks that the files of the reports are none that the run changes.
+pub fn check_changes<'a, S: FileSystem>(
+    system: &mut S,
+    words: &Words<'_>,
+    deeds: &[Deed<'_, Written<'_>>],
+) -> Result<(), Fault<'a>>
+    ensures fault { IfErr result texts.IsEarly }
+    ensures unchanged { KeepsFiles file_paths result (S.files system.old) (S.files system.new) }
+{
+    check_unchanged(system, deeds, "--deps <FILE>", words.deps)?;
+    check_unchanged(system, deeds, "--trace <FILE>", words.trace)
+}

@@ -1,0 +1,15 @@
+//! The folders and the files that the words of a run name, as the file system has them: which of them are the same, and the locks of disks.
+//!
+//! - `ids`: which file or folder is at a path
+//! - `clashes`, `locks`: two options with the same folder; the locked disks
+//! - `reports`: whether a report would be written over a file of the run
+#![tactic(auto)]
+
+mod clashes;
+mod ids;
+mod locks;
+mod reports;
+
+pub use clashes::same_folders;
+pub use locks::lock_disks;
+pub use reports::{is_one_file, report_taken};

@@ -1,0 +1,126 @@
+// Whether a report would be written over a file of a run.
+
+ghost use Rattle.std.specs.Prelude.{◌≡◌, IfErr, IfOk, IfSome, true};
+ghost use Rattle.folders.specs.Failures.{KeepsFiles};
+ghost use Rattle.folders.specs.Faults.{FailsBy, failure_paths};
+ghost use Rattle.disks.specs.Given.{HaveOneName, IsAnyReadFault, IsNameOf};
+
+use crate::ids::{are_same, id_at};
+use command_words::Words;
+use filenames::Key;
+use folders::{Failure, FileSystem, Id, Listing, path_in};
+
+// Returns the folder of a path and the name in it, if there is a name after the last `/`.
+fn folder_and_name(path: &str) -> Option<(&str, &str)>
+    ensures { IfSome result (λ found. IsNameOf path.now found.1.now) }
+{
+    match path.rsplit_once('/') {
+        Some((_, "")) => None,
+        Some(("", name)) => Some(("/", name)),
+        Some((folder, name)) => Some((folder, name)),
+        None if path.is_empty() => None,
+        None => Some((".", path)),
+    }
+}
+
+// Returns whether two paths have the same name in the same folder. A path that ends with a `/` has no name, and a path in a folder that is
+// not there is the same as no other.
+fn is_same_place<S: FileSystem>(system: &mut S, one: &str, other: &str) -> Result<bool, Failure>
+    ensures name { IfOk result (λ same. same ≡ true → HaveOneName one.now other.now) }
+    ensures fault { IfErr result (FailsBy IsAnyReadFault) }
+    ensures unchanged { KeepsFiles failure_paths result (S.files system.old) (S.files system.new) }
+{
+    match (folder_and_name(one), folder_and_name(other)) {
+        (Some((folder, name)), Some((other, same))) if name == same => {
+            are_same(system, folder, other)
+        }
+        _ => Ok(false),
+    }
+}
+
+/// Returns whether two paths are of one file: they have the same name in the same folder, or the same file is at both, as with a link.
+///
+/// # Errors
+///
+/// Returns `Err` if the system does not say which file or folder is at a path, or if an allocation fails.
+pub fn is_one_file<S: FileSystem>(system: &mut S, one: &str, other: &str) -> Result<bool, Failure>
+    ensures fault { IfErr result (FailsBy IsAnyReadFault) }
+    ensures unchanged { KeepsFiles failure_paths result (S.files system.old) (S.files system.new) }
+{
+    if is_same_place(system, one, other)? {
+        return Ok(true);
+    }
+    are_same(system, one, other)
+}
+
+// Returns whether this file is one of the host files that were read from a folder.
+fn is_read_from<S: FileSystem>(
+    system: &mut S,
+    folder: &str,
+    listing: &Listing,
+    id: Id,
+) -> Result<bool, Failure>
+    ensures fault { IfErr result (FailsBy IsAnyReadFault) }
+    ensures unchanged { KeepsFiles failure_paths result (S.files system.old) (S.files system.new) }
+{
+    let mut after: Option<Key> = None;
+    while let Some((key, file)) = listing.files.next_key_value(after) {
+        let Ok(path) = path_in(system.alloc(), folder, file.as_str()) else {
+            return Err(Failure::OutOfMemory);
+        };
+        if id_at(system, path.as_str())? == Some(id) {
+            return Ok(true);
+        }
+        after = Some(*key);
+    }
+    Ok(false)
+}
+
+// Returns whether this file is a host file.
+fn is_host_file<S: FileSystem>(
+    system: &mut S,
+    words: &Words<'_>,
+    listings: &[Option<Listing>; 4],
+    id: Id,
+) -> Result<bool, Failure>
+    ensures fault { IfErr result (FailsBy IsAnyReadFault) }
+    ensures unchanged { KeepsFiles failure_paths result (S.files system.old) (S.files system.new) }
+{
+    let folders = words.session().files;
+    for drive in 0..folders.len() {
+        if let (Some(folder), Some(listing)) = (folders[drive], &listings[drive])
+            && is_read_from(system, folder, listing, id)?
+        {
+            return Ok(true);
+        }
+    }
+    Ok(false)
+}
+
+/// Returns whether a file at the path of a report, or the one that a link there leads to, is one that the run reads: the program, the
+/// script, the edit lines or a host file.
+///
+/// # Errors
+///
+/// Returns `Err` if the system does not say which file is at a path, or if an allocation fails.
+pub fn report_taken<S: FileSystem>(
+    system: &mut S,
+    words: &Words<'_>,
+    listings: &[Option<Listing>; 4],
+    report: &str,
+) -> Result<bool, Failure>
+    ensures fault { IfErr result (FailsBy IsAnyReadFault) }
+    ensures unchanged { KeepsFiles failure_paths result (S.files system.old) (S.files system.new) }
+{
+    let Some(id) = id_at(system, report)? else {
+        return Ok(false);
+    };
+    for input in [Some(words.program), words.console, words.edits] {
+        if let Some(input) = input
+            && id_at(system, input)? == Some(id)
+        {
+            return Ok(true);
+        }
+    }
+    is_host_file(system, words, listings, id)
+}
