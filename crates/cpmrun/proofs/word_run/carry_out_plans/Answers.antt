@@ -18,9 +18,9 @@ returns-in_err-carry_out-clause-fault g c =
     let first = same_files c.in_ok-with_rule.ensures.unchanged in
     let third = same_files c.in_ok-plan.ensures.unchanged ∙ same_files c.in_ok-with_trace.ensures.unchanged ∙ first in
     let whole = is_whole p host own rule trace before _ _ _ _ _ _ c.in_ok-with_rule.ensures.apart (rw first at c.in_ok-with_trace.ensures.apart) c.requires.disks
-        c.in_ok-with_rule.ensures.planned c.in_ok-with_trace.ensures.planned c.in_ok-plan.ensures.planned in
+    c.in_ok-with_rule.ensures.planned c.in_ok-with_trace.ensures.planned c.in_ok-plan.ensures.planned in
     let carried = carries_plan p host own rule trace before _ _ (Err c.in_err-carry_out.field-0.0) c.args.outside.deeds.items c.plan.new.plan.deeds.items c.requires.outside
-        (rw third at c.in_ok-carry_out_each.ensures.carried) whole c.in_err-carry_out.ensures.carried in
+    (rw third at c.in_ok-carry_out_each.ensures.carried) whole c.in_err-carry_out.ensures.carried in
     let left = err_from_is_err_and c.from_residual-in_err-carry_out.result c.from_residual-in_err-carry_out.ensures.1 in
     rw (left.1, left.2) (inr (inl (c.in_err-carry_out.field-0.0, refl, inr carried)))
 
@@ -35,9 +35,9 @@ returns-in_err-write_report-clause-fault g c =
     let first = same_files c.in_ok-with_rule.ensures.unchanged in
     let third = same_files c.in_ok-plan.ensures.unchanged ∙ same_files c.in_ok-with_trace.ensures.unchanged ∙ first in
     let whole = is_whole p host own rule trace before _ _ _ _ _ _ c.in_ok-with_rule.ensures.apart (rw first at c.in_ok-with_trace.ensures.apart) c.requires.disks
-        c.in_ok-with_rule.ensures.planned c.in_ok-with_trace.ensures.planned c.in_ok-plan.ensures.planned in
+    c.in_ok-with_rule.ensures.planned c.in_ok-with_trace.ensures.planned c.in_ok-plan.ensures.planned in
     let carried = carries_plan p host own rule trace before _ _ (Ok tt) c.args.outside.deeds.items c.plan.new.plan.deeds.items c.requires.outside
-        (rw third at c.in_ok-carry_out_each.ensures.carried) whole c.in_ok-carry_out.ensures.carried in
+    (rw third at c.in_ok-carry_out_each.ensures.carried) whole c.in_ok-carry_out.ensures.carried in
     let left = err_from_is_err_and c.from_residual-in_err-write_report.result c.from_residual-in_err-write_report.ensures.1 in
     rw (left.1, left.2) (inr (inr (c.in_err-write_report.field-0.0, refl, c.in_err-write_report.ensures.fault, rw c.in_err-write_report.ensures.bytes carried)))
 
@@ -52,9 +52,9 @@ returns-in_err-write_report-2-clause-fault g c =
     let first = same_files c.in_ok-with_rule.ensures.unchanged in
     let third = same_files c.in_ok-plan.ensures.unchanged ∙ same_files c.in_ok-with_trace.ensures.unchanged ∙ first in
     let whole = is_whole p host own rule trace before _ _ _ _ _ _ c.in_ok-with_rule.ensures.apart (rw first at c.in_ok-with_trace.ensures.apart) c.requires.disks
-        c.in_ok-with_rule.ensures.planned c.in_ok-with_trace.ensures.planned c.in_ok-plan.ensures.planned in
+    c.in_ok-with_rule.ensures.planned c.in_ok-with_trace.ensures.planned c.in_ok-plan.ensures.planned in
     let carried = carries_plan p host own rule trace before _ _ (Ok tt) c.args.outside.deeds.items c.plan.new.plan.deeds.items c.requires.outside
-        (rw third at c.in_ok-carry_out_each.ensures.carried) whole c.in_ok-carry_out.ensures.carried in
+    (rw third at c.in_ok-carry_out_each.ensures.carried) whole c.in_ok-carry_out.ensures.carried in
     let left = err_from_is_err_and c.from_residual-in_err-write_report-2.result c.from_residual-in_err-write_report-2.ensures.1 in
     rw (left.1, left.2) (inr (inr (c.in_err-write_report-2.field-0.0, refl, c.in_err-write_report-2.ensures.fault, rw (c.in_err-write_report-2.ensures.bytes ∙ c.in_ok-write_report.ensures.bytes) carried)))
 
@@ -69,7 +69,7 @@ returns-clause-done g c =
     let first = same_files c.in_ok-with_rule.ensures.unchanged in
     let third = same_files c.in_ok-plan.ensures.unchanged ∙ same_files c.in_ok-with_trace.ensures.unchanged ∙ first in
     let whole = is_whole p host own rule trace before _ _ _ _ _ _ c.in_ok-with_rule.ensures.apart (rw first at c.in_ok-with_trace.ensures.apart) c.requires.disks
-        c.in_ok-with_rule.ensures.planned c.in_ok-with_trace.ensures.planned c.in_ok-plan.ensures.planned in
+    c.in_ok-with_rule.ensures.planned c.in_ok-with_trace.ensures.planned c.in_ok-plan.ensures.planned in
     let carried = carries_plan p host own rule trace before _ _ (Ok tt) c.args.outside.deeds.items c.plan.new.plan.deeds.items c.requires.outside
-        (rw third at c.in_ok-carry_out_each.ensures.carried) whole c.in_ok-carry_out.ensures.carried in
+    (rw third at c.in_ok-carry_out_each.ensures.carried) whole c.in_ok-carry_out.ensures.carried in
     rw (c.in_ok-write_report-2.ensures.bytes ∙ c.in_ok-write_report.ensures.bytes) carried

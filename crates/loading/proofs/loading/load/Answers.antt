@@ -13,10 +13,10 @@ pub returns-in_err-session-clause-fault : goal.returns-in_err-session-clause-fau
 returns-in_err-session-clause-fault g c =
     let left = err_from_is_err_and c.from_residual-in_err-session.result c.from_residual-in_err-session.ensures.1 in
     let refused = refused_of_words (g.S.FileSystem.files c.args.system.now) c.args.words.now c.in_ok-program.program.items c.in_ok-read.read.files
-            c.in_ok-script.script.items c.session_of.result
-            c.in_ok-program.ensures.program (rw (same_files c.in_ok-program.ensures.unchanged) at c.in_ok-read.ensures.files)
-            (rw (same_files c.in_ok-read.ensures.unchanged, same_files c.in_ok-program.ensures.unchanged) at c.in_ok-script.ensures.script)
-            (rw c.in_ok-tail.ensures.tail at c.session_of.ensures) in
+    c.in_ok-script.script.items c.session_of.result
+    c.in_ok-program.ensures.program (rw (same_files c.in_ok-program.ensures.unchanged) at c.in_ok-read.ensures.files)
+    (rw (same_files c.in_ok-read.ensures.unchanged, same_files c.in_ok-program.ensures.unchanged) at c.in_ok-script.ensures.script)
+    (rw c.in_ok-tail.ensures.tail at c.session_of.ensures) in
     rw (left.1, left.2) (rw c.in_err-session.was at refused)
 
 pub returns-in_err-script-clause-fault : goal.returns-in_err-script-clause-fault
