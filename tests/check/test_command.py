@@ -142,6 +142,28 @@ class MessageTest(CommandTest):
         self.expect_error(f'cannot read {self.work}', HI, '--edits', self.work)
         self.expect_error(f'cannot read {self.ret}', HI, '--files', self.ret)
 
+    def test_a_pipe_is_no_program_and_nothing_waits_for_it(self) -> None:
+        pipe, link = self.work / 'pipe', self.work / 'link'
+        os.mkfifo(pipe)
+        link.symlink_to(pipe)
+        for path in [pipe, link, '/dev/null']:
+            with self.subTest(path):
+                self.expect(1, '', f'cpmrun: cannot read {path}\n', path, timeout=20)
+
+    def test_a_program_can_be_a_link(self) -> None:
+        (self.work / 'link').symlink_to(HI)
+        self.expect(0, 'Hi', WARM_BOOT, self.work / 'link')
+
+    def test_control_characters_of_a_path_are_shown(self) -> None:
+        """A message is one line and does not control a terminal, whatever the path; other characters are as they are."""
+        path = 'a\nb\r\tc\x1b[31m\x01\x7f ä"\\'
+        shown = 'a\\nb\\r\\tc\\x1B[31m\\x01\\x7F ä"\\'
+        self.expect_error(f'cannot read {shown}', path)
+        for option in READ_OPTIONS:
+            with self.subTest(option):
+                self.expect_error(f'cannot read {shown}', HI, option, path)
+        self.expect(1, '.', f'cpmrun: cannot write {shown}/A\n', self.three, 'a', '--out', path)
+
     def test_each_message_shows_a_path_of_300_bytes(self) -> None:
         path = 'a' * 150 + '/' + 'b' * 149
         self.assertEqual(len(path), 300)

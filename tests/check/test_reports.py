@@ -149,6 +149,20 @@ class ClashTest(ReportTest):
         self.expect_bad_file('deps', 'to-rule', "it is the file of '--trace <FILE>'", *self.run_words, '--trace', self.work / 'rule.d')
         self.expect_kept()
 
+    def test_a_link_to_a_file_that_the_run_makes_keeps_the_file(self) -> None:
+        """When the words are read, nothing is there."""
+        out, link = self.work / 'out', self.work / 'to-new'
+        out.mkdir()
+        link.symlink_to('out/NEW')
+        for option in '--deps', '--trace':
+            self.expect(1, '', f'cpmrun: cannot write {link}: it was changed meanwhile\n', self.program, '--out', out, option, link)
+            self.assertEqual((out / 'NEW').read_bytes(), b'')
+            (out / 'NEW').unlink()
+        link.unlink()
+        link.symlink_to('disk/new')
+        self.expect(1, '', f'cpmrun: cannot write {link}: it was changed meanwhile\n', *self.run_words, '--trace', link)
+        self.expect_changed()
+
     def test_a_report_is_no_file_that_the_run_changes(self) -> None:
         (self.work / 'out').mkdir()
         for option in 'deps', 'trace':

@@ -127,7 +127,7 @@ MAY_REPORT_OUT_OF_MEMORY = {
     'one_run': 'path_of',
     'plan': 'look_into put remove trouble_of uncommitted unprepared',
     'replay': 'number',
-    'requests': 'clash_fault fixed_message message report_fault request_of_error status taken_fault',
+    'requests': 'clash_fault message report_fault request_of_error status taken_fault',
     'trace_command': 'write_answer',
     'tracing': 'call_trace',
 }

@@ -65,6 +65,9 @@ run_checks w =
 abbrev pub dependency_checks : DependencyWords → List Check
 dependency_checks w = listing_check w ∷ session_checks w.session
 
+abbrev pub trace_checks : TraceWords → List Check
+trace_checks w = session_checks w.session
+
 -- The names of the first check that fails.
 abbrev pub first_failed : List Check → Option (List (List ℕ))
 first_failed [] = None
@@ -87,4 +90,4 @@ abbrev pub dependency_clashes : DependencyWords → Bool
 dependency_clashes w = is_some (first_failed (dependency_checks w))
 
 abbrev pub trace_clashes : TraceWords → Bool
-trace_clashes w = is_some (first_failed (session_checks w.session))
+trace_clashes w = is_some (first_failed (trace_checks w))

@@ -134,7 +134,7 @@ impl TraceWords<'_> {
     /// Returns the first two options that exclude each other, if both are given.
     pub fn clash(&self) -> Option<Clash>
         ensures any { is_some result ≡ texts.trace_clashes self.now }
-        ensures first { texts.names_of result ≡ texts.first_failed (texts.session_checks self.now.session) }
+        ensures first { texts.names_of result ≡ texts.first_failed (texts.trace_checks self.now) }
     {
         self.session.clash()
     }

@@ -1,17 +1,12 @@
 -- The words of the command line. (This project's own.)
-use Rattle.std.specs.Prelude.{◌≡◌, ℕ, ◌≤◌, ◌⊎◌, true, false, List, []}
-use Rattle.command_words.specs.Clashes.{run_clashes}
+use Rattle.std.specs.Prelude.{◌≡◌, ℕ, ◌≤◌, false, List, []}
+use Rattle.command_words.specs.Clashes.{run_checks, run_clashes}
 use Rattle.command_words.specs.ErrorClass.{HasErrorClass}
 use Rattle.command_words.specs.RunLine.{AreWordsOf, run_faults, run_matches}
-use Rattle.command_words.specs.declared.error_classes.ErrorClass.{ErrorClass}
-use Rattle.command_words.specs.declared.error_classes.ErrorClass.TheVariants.{UsageError}
 use Rattle.command_words.specs.declared.words.Words.{Words}
-
--- The words have two options that exclude each other, or one that lacks another.
-pub record Clash (words : List (List ℕ)) : Type 0 where
-  pub w : Words
-  pub says : AreWordsOf (run_matches words) w
-  pub clashes : run_clashes w ≡ true
+use Rattle.requests.specs.Requests.{FailsToTake}
+use Rattle.requests.specs.declared.fault.Fault.{Fault}
+use Rattle.requests.specs.declared.tool.Tool.TheVariants.{Cpmrun}
 
 -- The words are no usage error, and have these values.
 pub record AreWords (words : List (List ℕ)) (w : Words) : Type 0 where
@@ -22,6 +17,6 @@ pub record AreWords (words : List (List ℕ)) (w : Words) : Type 0 where
   pub slots : (1 ≤ w.slots) × (w.slots ≤ 4096)
   pub alone : run_clashes w ≡ false
 
--- The words are a usage error: for clap, or since they have two options that exclude each other, or one that lacks another.
-abbrev pub HasFaultClass : List (List ℕ) → ErrorClass → Type 0
-HasFaultClass words outcome = HasErrorClass (run_faults words) outcome ⊎ ((outcome ≡ UsageError) × Clash words)
+-- Why the words are not taken.
+abbrev pub RefusesWords : List (List ℕ) → Fault → Type 0
+RefusesWords words fault = FailsToTake Cpmrun (HasErrorClass (run_faults words)) (AreWordsOf (run_matches words)) run_checks fault

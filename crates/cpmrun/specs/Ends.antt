@@ -11,8 +11,8 @@ use Rattle.edit_lines.specs.declared.ending.ReplayFault.TheVariants as replay_fa
 use Rattle.requests.specs.declared.fault.Fault.{Fault}
 use Rattle.requests.specs.declared.fault.Fault.TheVariants.{CannotRead, CannotWrite, Malformed, TooLong, OutOfMemory}
 use Rattle.requests.specs.declared.tool.Tool.TheVariants.{Cpmrun}
-use Rattle.requests.specs.Requests.{FailsToInform, FailsToLoadSession, FailsToParse, WritesNothing}
-use Rattle.cpmrun.specs.AreWords.{AreWords, HasFaultClass}
+use Rattle.requests.specs.Requests.{FailsToInform, FailsToLoadSession, WritesNothing}
+use Rattle.cpmrun.specs.AreWords.{AreWords, RefusesWords}
 use Rattle.loading.specs.Loading.{IsLoadedFrom}
 use Rattle.one_run.specs.World.{World}
 use Rattle.streams.specs.Streams.{Output, WritesWhole}
@@ -86,7 +86,7 @@ BreaksEdits w path before after fault =
 -- An error of these words, and what it leaves: an error of the words themselves, of writing help, or of the run or the replay.
 abbrev pub FaultOf : List (List ℕ) → World → World → Fault → Type 0
 FaultOf words before after fault =
-    (FailsToParse (HasFaultClass words) fault × WritesNothing before after)
+    (RefusesWords words fault × WritesNothing before after)
     ⊎ FailsToInform (HasErrorClass (run_faults words)) before after fault
     ⊎ ((w : Words) × AreWords words w × MatchOption w.edits (BreaksWords w before after fault) (λ path. BreaksEdits w path.now before after fault))
 

@@ -1,18 +1,24 @@
 -- What a run reports into files: a rule for make, and a trace. (This project's profile.)
-use Rattle.std.specs.Prelude.{◌≡◌, ℕ, Bool, true, false, [], ◌∷◌, ◌++◌, List, Option, Some, None, IfSome, get_or, map, unwrap_or}
+use Rattle.std.specs.Prelude.{◌≡◌, ◌⊎◌, ℕ, Bool, true, false, [], ◌∷◌, ◌++◌, List, Option, Some, None, IfSome, codes, get_or, map, string_bytes, unwrap_or}
 use Rattle.std.specs.Borrow.{Bor}
 use Rattle.std.specs.List.{flat_map}
 use Rattle.command_words.specs.RunLine.{session_words}
+use Rattle.command_words.specs.declared.clashes.Clash.{Clash}
 use Rattle.command_words.specs.declared.words.Words.{Words}
+use Rattle.disks.specs.Given.{AreGiven}
 use Rattle.folders.specs.FileSystem.{FileBytes, IsFree, Path}
 use Rattle.folders.specs.declared.listing.Listing.{Listing}
 use Rattle.machine.specs.Inputs.{Session}
 use Rattle.make_rules.specs.RefusedPaths.{refuses_rule}
 use Rattle.make_rules.specs.RunRules.{IsRule}
 use Rattle.plan.specs.Wanted.{Wanted, wanted}
+use Rattle.requests.specs.FaultReports.{clash_reason, usage_text, value_text}
 use Rattle.requests.specs.declared.fault.Fault.{Fault}
 use Rattle.requests.specs.declared.fault.Fault.TheVariants.{Folders, OutOfMemory, Usage}
+use Rattle.requests.specs.declared.tool.Tool.TheVariants.{Cpmrun}
 use Rattle.tracing.specs.Trace.{each_call, trace_text}
+use Rattle.cpmrun.specs.declared.reports.Placing.{Placing}
+use Rattle.cpmrun.specs.declared.reports.Placing.TheVariants.{InPlan, Through}
 use Rattle.cpmrun.specs.declared.reports.Report.{Report}
 
 -- The path of a report, and its text.
@@ -72,6 +78,10 @@ trace_at s (Some path) = Some (path.now, trace_text each_call s)
 abbrev pub IsTraceOf : Words → Session → Option Told → Type 0
 IsTraceOf w s trace = trace ≡ trace_at s w.trace
 
+abbrev pub is_in_plan : Placing → Bool
+is_in_plan InPlan = true
+is_in_plan (Through file) = false
+
 -- What a report adds to a plan, if it is part of it.
 abbrev pub report_part : Bool → Option Told → List Wanted
 report_part true (Some (path, text)) = wanted path None (Some text) ∷ []
@@ -82,9 +92,45 @@ abbrev pub IsElsewhere : Option Told → Option FileBytes → Type 0
 IsElsewhere None files = Unit {0}
 IsElsewhere (Some (path, text)) files = IsFree path files
 
--- An error of looking at paths, before a file is changed: something cannot be read or written, a usage error, or no memory.
-abbrev pub IsEarly : Fault → Type 0
-IsEarly (Usage text) = Unit {0}
-IsEarly (Folders f) = Unit {0}
-IsEarly OutOfMemory = Unit {0}
-IsEarly fault = ⊥
+-- An error of making a plan: something cannot be looked at, or not be written as planned, or an allocation failed.
+abbrev pub IsPlanFault : Fault → Type 0
+IsPlanFault (Folders f) = Unit {0}
+IsPlanFault OutOfMemory = Unit {0}
+IsPlanFault fault = ⊥
+
+-- The reasons for which an option cannot have the path of a report.
+abbrev pub is_read : List ℕ
+is_read = codes "the run reads this file"
+
+abbrev pub is_changed : List ℕ
+is_changed = codes "the run changes this file"
+
+abbrev pub is_other : List ℕ
+is_other = codes "it is the file of '--trace <FILE>'"
+
+-- The message if the option of this report cannot have its path, for this reason.
+abbrev pub IsTaken : Option (Bor Path) → List ℕ → List ℕ → List ℕ → Type 0
+IsTaken report option reason message = (path : Bor Path) × (report ≡ Some path) × (message ≡ value_text path.now option reason)
+
+-- The message of a usage error that is seen in the files: two options have the same folder, or a report is to be written to a file that the run
+-- reads or changes, or both reports to one file.
+abbrev pub IsFileUsage : Words → List ℕ → Type 0
+IsFileUsage w message =
+    ((clash : Clash) × AreGiven w clash × (message ≡ usage_text Cpmrun (clash_reason clash)))
+    ⊎ IsTaken w.deps (codes "--deps <FILE>") is_read message ⊎ IsTaken w.trace (codes "--trace <FILE>") is_read message
+    ⊎ IsTaken w.deps (codes "--deps <FILE>") is_other message
+    ⊎ IsTaken w.deps (codes "--deps <FILE>") is_changed message ⊎ IsTaken w.trace (codes "--trace <FILE>") is_changed message
+
+-- An error of looking at files before one is changed.
+abbrev pub IsEarly : Words → Fault → Type 0
+IsEarly w (Usage text) = IsFileUsage w (string_bytes text)
+IsEarly w (Folders f) = Unit {0}
+IsEarly w OutOfMemory = Unit {0}
+IsEarly w fault = ⊥
+
+-- The same, of the option of one report.
+abbrev pub IsTakenFault : Option (Bor Path) → List ℕ → List ℕ → Fault → Type 0
+IsTakenFault report option reason (Usage text) = IsTaken report option reason (string_bytes text)
+IsTakenFault report option reason (Folders f) = Unit {0}
+IsTakenFault report option reason OutOfMemory = Unit {0}
+IsTakenFault report option reason fault = ⊥

@@ -36,7 +36,7 @@ use Rattle.requests.specs.RuleFaults.{of_rule}
 use Rattle.requests.specs.declared.fault.Fault.{Fault}
 use Rattle.requests.specs.declared.fault.Fault.TheVariants.{CannotWrite, DiskUnchanged, OutOfMemory}
 use Rattle.streams.specs.Streams.{WritesOrFails, WritesWhole}
-use Rattle.cpmrun.specs.Reports.{IsEarly, IsElsewhere, IsRuleOf, IsTraceOf, Told, put_paths, report_part, rule_path, written_folders}
+use Rattle.cpmrun.specs.Reports.{IsEarly, IsElsewhere, IsPlanFault, IsRuleOf, IsTraceOf, Told, put_paths, report_part, rule_path, written_folders}
 
 -- Whether the run changes the disks: it stopped by the warm start, or the words ask for it whatever the stop.
 abbrev pub is_warm : Cause → Bool
@@ -94,7 +94,7 @@ pub record CarriesPlan (p : Places) (host : Host) (files : Files) (rule trace : 
 -- off; or all was carried out, and a report was not written into what is no regular file.
 abbrev pub BreaksPlan : Places → Host → Files → Option Told → Option Told → Option FileBytes → Option FileBytes → Fault → Type 0
 BreaksPlan p host files rule trace before after fault =
-    (IsEarly fault × (after ≡ before))
+    (IsPlanFault fault × (after ≡ before))
     ⊎ ((f : Failure) × (fault ≡ of_failure f) × (WritesOutside p host files before after (Err f) ⊎ CarriesPlan p host files rule trace before after (Err f)))
     ⊎ ((f : Failure) × (fault ≡ of_failure f) × FailsBy IsAnyWriteFault f × CarriesPlan p host files rule trace before after (Ok tt))
 
@@ -115,7 +115,7 @@ pub record ChangesFiles (w : Words) (listings : List (Option Listing)) (s : Sess
 -- This broke off.
 abbrev pub BreaksChanges : Words → List (Option Listing) → Session → Places → Option FileBytes → Option FileBytes → Fault → Type 0
 BreaksChanges w listings s p before after fault =
-    (IsEarly fault × (after ≡ before))
+    (IsEarly w fault × (after ≡ before))
     ⊎ ((rule : Option Told) × (trace : Option Told) × AreReports w listings s p rule trace × BreaksPlan p s.files (plain_run s).state.files rule trace before after fault)
 
 -- The session was run: its console text was written, then the files were changed, on the disks only if the run changes them, and then the
@@ -140,7 +140,7 @@ of_run w run.OutOfMemory = OutOfMemory
 -- not changed as the run asks.
 abbrev pub BreaksRun : Words → List (Option Listing) → Session → World → World → Fault → Type 0
 BreaksRun w listings s before after fault =
-    (IsEarly fault × WritesNothing before after)
+    (IsEarly w fault × WritesNothing before after)
     ⊎ ((f : RunFault) × (fault ≡ of_run w f) × BreaksText (console_text s) before.out after.out f × (after.files.bytes ≡ before.files.bytes))
     ⊎ (WritesWhole before.out after.out (console_text s) × ((p : Places) × ArePlaces w listings p
     × BreaksChanges w listings s (places_at (changes_disks w (plain_run s).cause) p) before.files.bytes after.files.bytes fault))
@@ -160,7 +160,7 @@ RefusesRule w fault = (f : RuleFault) × (fault ≡ of_rule f) × MatchOption w.
 -- An error of such words: before a session is loaded, of loading it, or of its run.
 abbrev pub BreaksWords : Words → World → World → Fault → Type 0
 BreaksWords w before after fault =
-    ((IsEarly fault ⊎ RefusesRule w fault) × WritesNothing before after)
+    ((IsEarly w fault ⊎ RefusesRule w fault) × WritesNothing before after)
     ⊎ FailsToLoadSession (session_words w) before after fault
     ⊎ ((s : Session) × (listings : List (Option Listing)) × IsLoadedFrom before.files (session_words w) s × AreListings before.files (session_words w).files listings
     × BreaksRun w listings s before after fault)

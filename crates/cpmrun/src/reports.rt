@@ -15,7 +15,9 @@ ghost use Rattle.cpmrun.specs.Reports as texts;
 
 use command_words::Words;
 use disks::{is_one_file, report_taken};
-use folders::{Failure, Fault as FolderFault, FileSystem, Kind, Listing, Written, write_failure};
+use folders::{
+    Failure, Fault as FolderFault, FileSystem, Id, Kind, Listing, Written, write_failure,
+};
 use machine::{Session, WholeRun};
 use make_rules::rule_of_run;
 use plan::{Before, Deed, Plan};
@@ -110,28 +112,40 @@ pub fn trace_report<'a>(
     Ok(Some(Report { path, text }))
 }
 
-/// Plans a report, if what is at its path is a regular file, or nothing. Returns whether it did.
+/// How a report is written.
+#[derive(Clone, Copy, Debug)]
+pub enum Placing {
+    /// As a part of the plan.
+    InPlan,
+    /// Through what is at its path: a device or a pipe, or a link, which leads to this file or to nothing.
+    Through(Option<Id>),
+}
+
+/// Plans a report, if what is at its path is a regular file, or nothing. Returns how it is to be written.
 pub fn plan_report<'p, S: FileSystem>(
     system: &mut S,
     plan: &mut Plan<'p, Written<'p>>,
     report: &'p Option<Report<'_>>,
-) -> Result<bool, Failure>
-    ensures planned { IfOk result (λ planned. map (wanted_of written_bytes) plan.new.deeds.items
+) -> Result<Placing, Failure>
+    ensures planned { IfOk result (λ placing. map (wanted_of written_bytes) plan.new.deeds.items
         ≡ map (wanted_of written_bytes) plan.old.deeds.items
-        ++ texts.report_part planned (option_map texts.told report.entry.now)) }
-    ensures apart { IfOk result (λ planned. planned ≡ false
+        ++ texts.report_part (texts.is_in_plan placing) (option_map texts.told report.entry.now)) }
+    ensures apart { IfOk result (λ placing. texts.is_in_plan placing ≡ false
         → texts.IsElsewhere (option_map texts.told report.entry.now) (S.files system.old).bytes) }
     ensures fault { IfErr result (FailsBy IsAnyWriteFault) }
     ensures unchanged { KeepsFiles failure_paths result (S.files system.old) (S.files system.new) }
 {
     let Some(report) = report else {
-        return Ok(false);
+        return Ok(Placing::Through(None));
     };
     let Ok(path) = String::from_str(system.alloc(), report.path) else {
         return Err(Failure::OutOfMemory);
     };
     match system.kind(report.path) {
-        Ok(Kind::Other) => Ok(false),
+        Ok(Kind::Other) => match system.id(report.path) {
+            Ok(file) => Ok(Placing::Through(file)),
+            Err(error) => Err(write_failure(error, path)),
+        },
         Ok(_) => {
             plan.put(
                 system,
@@ -139,33 +153,35 @@ pub fn plan_report<'p, S: FileSystem>(
                 Before::Any,
                 Written::Text(report.text.as_slice()),
             )?;
-            Ok(true)
+            Ok(Placing::InPlan)
         }
         Err(error) => Err(write_failure(error, path)),
     }
 }
 
-/// Writes a report that is not planned into what is at its path, if this is still no regular file.
+/// Writes a report that is not planned through what is at its path, if this is still no regular file and, if it is a link, leads to the same
+/// file or to nothing: the run may have made one there.
 pub fn write_report<S: FileSystem>(
     system: &mut S,
     report: &Option<Report<'_>>,
-    planned: bool,
+    placing: Placing,
 ) -> Result<(), Failure>
     ensures bytes { (S.files system.new).bytes ≡ (S.files system.old).bytes }
     ensures fault { IfErr result (FailsBy IsAnyWriteFault) }
     ensures failed { ReportsPaths failure_paths result (S.files system.old) (S.files system.new) }
 {
-    let Some(report) = report else {
+    let (Some(report), Placing::Through(file)) = (report, placing) else {
         return Ok(());
     };
-    if planned {
-        return Ok(());
-    }
     let Ok(path) = String::from_str(system.alloc(), report.path) else {
         return Err(Failure::OutOfMemory);
     };
+    let found = match system.id(report.path) {
+        Ok(found) => found,
+        Err(error) => return Err(write_failure(error, path)),
+    };
     match system.kind(report.path) {
-        Ok(Kind::Other) => write_into(system, path, report.text.as_slice()),
+        Ok(Kind::Other) if found == file => write_into(system, path, report.text.as_slice()),
         Ok(_) => Err(Failure::AtFault(FolderFault::Changed(path))),
         Err(error) => Err(write_failure(error, path)),
     }
@@ -208,7 +224,7 @@ fn check_unread<'a, S: FileSystem>(
     option: &str,
     report: Option<&str>,
 ) -> Result<(), Fault<'a>>
-    ensures fault { IfErr result texts.IsEarly }
+    ensures fault { IfErr result (texts.IsTakenFault report option.now texts.is_read) }
     ensures unchanged { KeepsFiles file_paths result (S.files system.old) (S.files system.new) }
 {
     let Some(path) = report else {
@@ -227,7 +243,7 @@ pub fn check_reports<'a, S: FileSystem>(
     words: &Words<'_>,
     listings: &[Option<Listing>; 4],
 ) -> Result<(), Fault<'a>>
-    ensures fault { IfErr result texts.IsEarly }
+    ensures fault { IfErr result (texts.IsEarly words.now) }
     ensures unchanged { KeepsFiles file_paths result (S.files system.old) (S.files system.new) }
 {
     check_unread(system, words, listings, "--deps <FILE>", words.deps)?;
@@ -249,7 +265,7 @@ fn check_unchanged<'a, S: FileSystem>(
     option: &str,
     report: Option<&str>,
 ) -> Result<(), Fault<'a>>
-    ensures fault { IfErr result texts.IsEarly }
+    ensures fault { IfErr result (texts.IsTakenFault report option.now texts.is_changed) }
     ensures unchanged { KeepsFiles file_paths result (S.files system.old) (S.files system.new) }
 {
     let Some(path) = report else {
@@ -268,7 +284,7 @@ pub fn check_changes<'a, S: FileSystem>(
     words: &Words<'_>,
     deeds: &[Deed<'_, Written<'_>>],
 ) -> Result<(), Fault<'a>>
-    ensures fault { IfErr result texts.IsEarly }
+    ensures fault { IfErr result (texts.IsEarly words.now) }
     ensures unchanged { KeepsFiles file_paths result (S.files system.old) (S.files system.new) }
 {
     check_unchanged(system, deeds, "--deps <FILE>", words.deps)?;

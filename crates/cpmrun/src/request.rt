@@ -3,8 +3,8 @@
 ghost use Rattle.std.specs.Prelude.{IfOk, IfErr, map, string_bytes};
 ghost use Rattle.command_words.specs.RunLine.{run_faults};
 ghost use Rattle.command_words.specs.ErrorClass.{HasErrorClass};
-ghost use Rattle.requests.specs.Requests.{IsRequestOf, FailsToParse};
-ghost use Rattle.cpmrun.specs.AreWords.{AreWords, HasFaultClass};
+ghost use Rattle.requests.specs.Requests.{IsRequestOf};
+ghost use Rattle.cpmrun.specs.AreWords.{AreWords, RefusesWords};
 
 use command_words::{Words, error_class, read_words};
 use requests::{Fault, Request, Tool, clash_fault, request_of_error};
@@ -14,8 +14,7 @@ use std::alloc::Global;
 pub fn read_request<'a>(alloc: Global, words: &'a [String]) -> Result<Request<Words<'a>>, Fault<'a>>
     ensures request { let texts = map string_bytes words.entry.now in
         IfOk result (IsRequestOf (AreWords texts) (HasErrorClass (run_faults texts))) }
-    ensures fault { IfErr result
-        (FailsToParse (HasFaultClass (map string_bytes words.entry.now))) }
+    ensures fault { IfErr result (RefusesWords (map string_bytes words.entry.now)) }
 {
     match read_words(alloc, words) {
         Ok(words) => match words.clash() {

@@ -95,14 +95,14 @@ fn carry_out_plans<'p, 'a, S: FileSystem>(
         (option_map told trace.entry.now) (S.files system.old).bytes (S.files system.new).bytes) }
     ensures failed { ReportsPaths file_paths result (S.files system.old) (S.files system.new) }
 {
-    let with_rule = plan_report(system, &mut plan, rule)?;
-    let with_trace = plan_report(system, &mut plan, trace)?;
+    let rule_placing = plan_report(system, &mut plan, rule)?;
+    let trace_placing = plan_report(system, &mut plan, trace)?;
     changes.plan(system, &mut plan, Turn::Gone)?;
     let folders = changed_disks(system.alloc(), changes)?;
     carry_out_each(system, outside)?;
     carry_out(system, plan, folders)?;
-    write_report(system, rule, with_rule)?;
-    write_report(system, trace, with_trace)?;
+    write_report(system, rule, rule_placing)?;
+    write_report(system, trace, trace_placing)?;
     Ok(())
 }
 
@@ -187,7 +187,7 @@ fn lock_folders<'a, S: FileSystem>(
     system: &mut S,
     words: &Words<'a>,
 ) -> Result<Vec<S::Lock>, Fault<'a>>
-    ensures fault { IfErr result IsEarly }
+    ensures fault { IfErr result (IsEarly words.now) }
     ensures unchanged { KeepsFiles file_paths result (S.files system.old) (S.files system.new) }
 {
     if let Some(clash) = same_folders(system, words)? {

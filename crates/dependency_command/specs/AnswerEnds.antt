@@ -2,8 +2,7 @@
 use Rattle.std.specs.Prelude.{◌≡◌, ℕ, ◌⊎◌, false, IfSome, List, [], MatchOption, Option}
 use Rattle.command_words.specs.DependencyLine.{dependency_faults}
 use Rattle.command_words.specs.ErrorClass.{HasErrorClass}
-use Rattle.command_words.specs.declared.error_classes.ErrorClass.{ErrorClass}
-use Rattle.command_words.specs.declared.error_classes.ErrorClass.TheVariants.{Information, UsageError}
+use Rattle.command_words.specs.declared.error_classes.ErrorClass.TheVariants.{Information}
 use Rattle.command_words.specs.declared.words.DependencyWords.{DependencyWords}
 use Rattle.folders.specs.DriveFolders.{AreListings}
 use Rattle.folders.specs.declared.listing.Listing.{Listing}
@@ -14,11 +13,11 @@ use Rattle.make_rules.specs.declared.fault.RuleFault.{RuleFault}
 use Rattle.one_run.specs.World.{World}
 use Rattle.streams.specs.Streams.{WritesWhole}
 use Rattle.requests.specs.FaultReports.{EndsWithFault}
-use Rattle.requests.specs.Requests.{FailsToInform, FailsToLoadSession, FailsToParse, WritesNothing}
+use Rattle.requests.specs.Requests.{FailsToInform, FailsToLoadSession, WritesNothing}
 use Rattle.requests.specs.RuleFaults.{of_rule}
 use Rattle.requests.specs.declared.fault.Fault.{Fault}
 use Rattle.requests.specs.declared.tool.Tool.TheVariants.{Cpmdeps}
-use Rattle.dependency_command.specs.AreDependencyWords.{AreDependencyWords, Clash}
+use Rattle.dependency_command.specs.AreDependencyWords.{AreDependencyWords, RefusesWords}
 use Rattle.dependency_command.specs.Answers.{BreaksAnswer, IsAnswer, ReportsAnswer, WritesAnswer}
 
 -- A rule for make is asked for, and it can have the paths; or none is asked for.
@@ -58,15 +57,11 @@ pub record EndsWithAnswer (words : List (List ℕ)) (status : ℕ) (before after
 abbrev pub RefusesRule : DependencyWords → World → World → Fault → Type 0
 RefusesRule w before after fault = (f : RuleFault) × (fault ≡ of_rule f) × RefusesPaths w f × WritesNothing before after
 
--- The words are a usage error: for clap, or since they have two options that exclude each other.
-abbrev pub HasFaultClass : List (List ℕ) → ErrorClass → Type 0
-HasFaultClass words outcome = HasErrorClass (dependency_faults words) outcome ⊎ ((outcome ≡ UsageError) × Clash words)
-
 -- An error of these words, and what it leaves: an error of the words themselves, of writing help, of a path that a rule cannot have, or, if
 -- there is none, of loading the session or of the answer about its run.
 abbrev pub FaultOf : List (List ℕ) → World → World → Fault → Type 0
 FaultOf words before after fault =
-    (FailsToParse (HasFaultClass words) fault × WritesNothing before after)
+    (RefusesWords words fault × WritesNothing before after)
     ⊎ FailsToInform (HasErrorClass (dependency_faults words)) before after fault
     ⊎ ((w : DependencyWords) × AreDependencyWords words w × (RefusesRule w before after fault
     ⊎ (AllowsPaths w × (FailsToLoadSession w.session before after fault

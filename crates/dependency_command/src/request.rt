@@ -3,9 +3,8 @@
 ghost use Rattle.std.specs.Prelude.{IfOk, IfErr, map, string_bytes};
 ghost use Rattle.command_words.specs.DependencyLine.{dependency_faults};
 ghost use Rattle.command_words.specs.ErrorClass.{HasErrorClass};
-ghost use Rattle.requests.specs.Requests.{IsRequestOf, FailsToParse};
-ghost use Rattle.dependency_command.specs.AnswerEnds.{HasFaultClass};
-ghost use Rattle.dependency_command.specs.AreDependencyWords.{AreDependencyWords};
+ghost use Rattle.requests.specs.Requests.{IsRequestOf};
+ghost use Rattle.dependency_command.specs.AreDependencyWords.{AreDependencyWords, RefusesWords};
 
 use command_words::{DependencyWords, error_class, read_dependency_words};
 use requests::{Fault, Request, Tool, clash_fault, request_of_error};
@@ -18,8 +17,7 @@ pub fn read_request<'a>(
 ) -> Result<Request<DependencyWords<'a>>, Fault<'a>>
     ensures request { let texts = map string_bytes words.entry.now in
         IfOk result (IsRequestOf (AreDependencyWords texts) (HasErrorClass (dependency_faults texts))) }
-    ensures fault { IfErr result
-        (FailsToParse (HasFaultClass (map string_bytes words.entry.now))) }
+    ensures fault { IfErr result (RefusesWords (map string_bytes words.entry.now)) }
 {
     match read_dependency_words(alloc, words) {
         Ok(words) => match words.clash() {

@@ -75,8 +75,14 @@ pub trait FileSystem {
         ensures names { (files self.new).names ≡ (files self.old).names }
         ensures failed { (files self.new).failed ≡ path.now ∷ (files self.old).failed };
 
-    /// Reads a file: all of its bytes, or its first `most` if it has more.
+    /// Reads a regular file, or the one at the end of a link: all of its bytes, or its first `most` if it has more. Anything else, such
+    /// as a pipe, is an error, since reading it could wait for ever.
     fn read(&mut self, path: &str, most: u64) -> io::Result<Vec<u8>>
+        ensures reads { IfOk result (λ bytes. ReadsFile (files self.old).bytes path.now most bytes.items) }
+        ensures unchanged { KeepsFiles (io_paths path.now) result (files self.old) (files self.new) };
+
+    /// Reads what is at a path, which may be a pipe or a device: all of its bytes, or its first `most` if it has more.
+    fn read_any(&mut self, path: &str, most: u64) -> io::Result<Vec<u8>>
         ensures reads { IfOk result (λ bytes. ReadsFile (files self.old).bytes path.now most bytes.items) }
         ensures unchanged { KeepsFiles (io_paths path.now) result (files self.old) (files self.new) };
 
@@ -253,6 +259,14 @@ impl<R: Files<File = File> + AllocGlobal + Clone + Drop> SystemFiles<'_, R> {
         read_first(self.rt.alloc(), fs::open(self.rt, path)?, most)
     }
 
+    // Opening a pipe waits for its other end, so what is there is looked at first.
+    fn read_regular(&self, path: &str, most: u64) -> io::Result<Vec<u8>> {
+        if !fs::metadata(self.rt, path)?.is_file() {
+            return Err(io::Error::from(ErrorKind::InvalidInput));
+        }
+        self.read_from(path, most)
+    }
+
     fn synced(&self, folder: &str) -> io::Result<()> {
         fs::open(self.rt, folder)?.sync_all()
     }
@@ -340,6 +354,11 @@ impl<R: Files<File = File> + AllocGlobal + Clone + Drop> FileSystem for SystemFi
     }
 
     fn read(&mut self, path: &str, most: u64) -> io::Result<Vec<u8>> {
+        let bytes = self.read_regular(path, most);
+        self.note(path, bytes)
+    }
+
+    fn read_any(&mut self, path: &str, most: u64) -> io::Result<Vec<u8>> {
         let bytes = self.read_from(path, most);
         self.note(path, bytes)
     }

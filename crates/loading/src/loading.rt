@@ -56,7 +56,7 @@ pub fn open<'a, S: FileSystem>(system: &mut S, path: &'a str) -> Result<S::Input
     }
 }
 
-/// Reads the program at this path.
+/// Reads the program at this path, a regular file.
 fn program_at<'a, S: FileSystem>(system: &mut S, path: &'a str) -> Result<Vec<u8>, LoadFault<'a>>
     ensures program { IfOk result
         (λ program. ReadsFile (S.files system.old).bytes path.now (PROGRAM_LIMIT + 1) program.items) }
@@ -69,7 +69,7 @@ fn program_at<'a, S: FileSystem>(system: &mut S, path: &'a str) -> Result<Vec<u8
     }
 }
 
-/// Reads the script at this path; without a path it is empty.
+/// Reads the script at this path, which may be a pipe; without a path it is empty.
 fn script_at<'a, S: FileSystem>(
     system: &mut S,
     path: Option<&'a str>,
@@ -82,7 +82,7 @@ fn script_at<'a, S: FileSystem>(
     let Some(path) = path else {
         return Ok(Vec::new(system.alloc()));
     };
-    match system.read(path, SCRIPT_READ) {
+    match system.read_any(path, SCRIPT_READ) {
         Ok(script) => Ok(script),
         Err(error) => Err(read_fault(error, path)),
     }

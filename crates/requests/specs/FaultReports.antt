@@ -1,6 +1,9 @@
 -- The exit status and the message of each error. (This project's own.)
-use Rattle.std.specs.Prelude.{◌≡◌, ℕ, List, [], ◌∷◌, ◌⊎◌, ◌++◌, codes, string_bytes}
+use Rattle.std.specs.Prelude.{◌≡◌, ℕ, ◌==◌, ◌||◌, nat_le, if◌then◌else◌, List, [], ◌∷◌, ◌⊎◌, ◌++◌, codes, string_bytes}
+use Rattle.std.specs.List.{flat_map}
 use Rattle.std.specs.Fmt.{decimal}
+use Rattle.command_words.specs.declared.clashes.Clash.{Clash}
+use Rattle.command_words.specs.declared.clashes.Clash.TheVariants.{Both, SameFolder, Missing}
 use Rattle.folders.specs.Faults.{fault_paths, text_of}
 use Rattle.folders.specs.FileSystem.{Path}
 use Rattle.folders.specs.declared.fault.Failure.{Failure}
@@ -11,10 +14,12 @@ use Rattle.one_run.specs.declared.fault.RunFault.{RunFault}
 use Rattle.one_run.specs.declared.fault.RunFault.TheVariants as run
 use Rattle.requests.specs.declared.fault.Fault.{Fault}
 use Rattle.requests.specs.declared.fault.Fault.TheVariants.{Usage, BadEscape, NotText, CannotRead, CannotWrite, DiskUnchanged, Folders, Refused, Malformed, TooLong, RulePath, OutOfMemory}
+use Rattle.requests.specs.declared.fault.Message.{Message}
+use Rattle.requests.specs.declared.fault.Message.TheVariants.{Fixed, Made}
 use Rattle.requests.specs.declared.tool.Tool.{Tool}
 use Rattle.requests.specs.declared.tool.Tool.TheVariants.{Cpmrun, Cpmdeps, Cpmtrace}
 use Rattle.one_run.specs.World.{World}
-use Rattle.report_lines.specs.FirstLines.{line}
+use Rattle.report_lines.specs.FirstLines.{byte_text, line}
 use Rattle.streams.specs.Streams.{Output, WritesOrFails}
 
 -- The program's error for an error of loading, for a failure of the folders, and for an error of the run.
@@ -52,32 +57,57 @@ name_of Cpmrun = codes "cpmrun"
 name_of Cpmdeps = codes "cpmdeps"
 name_of Cpmtrace = codes "cpmtrace"
 
+-- A byte of a message: a control character after a `\`, as cpmtrace shows it, since a path may have one.
+abbrev pub shown_byte : ℕ → List ℕ
+shown_byte b =
+    if b == 13 then codes "\\r"
+    else if b == 10 then codes "\\n"
+    else if b == 9 then codes "\\t"
+    else if nat_le b 0x1f || b == 0x7f then codes "\\x" ++ byte_text b
+    else b ∷ []
+
+abbrev pub shown : List ℕ → List ℕ
+shown bytes = flat_map shown_byte bytes
+
 -- A line of a program's messages.
 abbrev pub message_line : Tool → List ℕ → List ℕ
-message_line tool text = name_of tool ++ codes ": " ++ line text
+message_line tool text = name_of tool ++ codes ": " ++ line (shown text)
 
 -- The message for an option with a value that it cannot have, worded as clap's.
 abbrev pub value_text : List ℕ → List ℕ → List ℕ → List ℕ
 value_text value option mistake =
     codes "error: invalid value '" ++ value ++ codes "' for '" ++ option ++ codes "': " ++ mistake ++ codes "\n\nFor more information, try '--help'.\n"
 
+-- The lines of a usage error for this reason, worded as clap's.
+abbrev pub usage_text : Tool → List ℕ → List ℕ
+usage_text tool reason =
+    codes "error: " ++ reason ++ codes "\n\nUsage: " ++ name_of tool ++ codes " [OPTIONS] <PROGRAM> [TAIL]\n\nFor more information, try '--help'.\n"
+
+-- The reason if two options exclude each other, or an option needs one that was not given.
+abbrev pub clash_reason : Clash → List ℕ
+clash_reason (Both first second) = codes "the argument '" ++ first.now ++ codes "' cannot be used with '" ++ second.now ++ codes "'"
+clash_reason (SameFolder first second) = codes "the argument '" ++ first.now ++ codes "' cannot be used with '" ++ second.now ++ codes "': both are the same folder"
+clash_reason (Missing option) = codes "the following required arguments were not provided:\n  " ++ option.now
+
 -- The message of an error: clap's lines for a usage error, and one line for every other.
 abbrev pub message_of : Tool → Fault → List ℕ
 message_of tool (Usage text) = string_bytes text
 message_of tool (BadEscape text) = value_text text.now (codes "--typed <TEXT>") (codes "unknown escape after a backslash")
-message_of tool NotText =
-    line (codes "error: invalid UTF-8 was detected in one or more arguments") ++ line []
-    ++ codes "Usage: " ++ name_of tool ++ line (codes " [OPTIONS] <PROGRAM> [TAIL]") ++ line []
-    ++ line (codes "For more information, try '--help'.")
-message_of tool (CannotRead path) = message_line tool (codes "cannot read " ++ path.now)
+message_of tool NotText = usage_text tool (codes "invalid UTF-8 was detected in one or more arguments")
 message_of tool CannotWrite = message_line tool (codes "cannot write standard output")
 message_of tool DiskUnchanged = message_line tool (codes "cannot write standard output") ++ line (codes "disk unchanged")
+message_of tool (CannotRead path) = message_line tool (codes "cannot read " ++ path.now)
 message_of tool (Folders f) = message_line tool (text_of f)
 message_of tool (Refused n) = message_line tool (codes "session refused " ++ decimal n)
-message_of tool (Malformed k) = name_of tool ++ codes ": line " ++ decimal k ++ line (codes " is malformed")
-message_of tool (TooLong k) = name_of tool ++ codes ": line " ++ decimal k ++ line (codes " is too long")
+message_of tool (Malformed k) = message_line tool (codes "line " ++ decimal k ++ codes " is malformed")
+message_of tool (TooLong k) = message_line tool (codes "line " ++ decimal k ++ codes " is too long")
 message_of tool (RulePath path) = message_line tool (codes "a rule for make cannot have the path " ++ string_bytes path)
 message_of tool OutOfMemory = message_line tool (codes "out of memory")
+
+-- The bytes of a message.
+abbrev pub bytes_of : Message → List ℕ
+bytes_of (Fixed text) = text.now
+bytes_of (Made text) = text.items
 
 -- The status is this error's, and its message was written, or a prefix of it if writing failed.
 abbrev pub ReportsFault : Tool → Fault → ℕ → Output → Output → Type 0

@@ -1,5 +1,7 @@
 -- The request in the words of a command line. (This project's own.)
-use Rattle.std.specs.Prelude.{◌≡◌, ℕ, List, Result, string_bytes}
+use Rattle.std.specs.Prelude.{◌≡◌, ◌⊎◌, ℕ, List, Result, Some, string_bytes}
+use Rattle.command_words.specs.Clashes.{Check, first_failed, names_in}
+use Rattle.command_words.specs.declared.clashes.Clash.{Clash}
 use Rattle.command_words.specs.declared.words.SessionWords.{SessionWords}
 use Rattle.command_words.specs.declared.error_classes.ErrorClass.{ErrorClass}
 use Rattle.command_words.specs.declared.error_classes.ErrorClass.TheVariants as outcome
@@ -7,11 +9,12 @@ use Rattle.loading.specs.Loading.{FailsToLoad}
 use Rattle.loading.specs.declared.fault.LoadFault.{LoadFault}
 use Rattle.one_run.specs.World.{World}
 use Rattle.streams.specs.Streams.{Output, WritesPart, WritesText}
-use Rattle.requests.specs.FaultReports.{of_load}
+use Rattle.requests.specs.FaultReports.{clash_reason, of_load, usage_text}
 use Rattle.requests.specs.declared.request.Request.{Request}
 use Rattle.requests.specs.declared.request.Request.TheVariants.{Session, Information}
 use Rattle.requests.specs.declared.fault.Fault.{Fault}
 use Rattle.requests.specs.declared.fault.Fault.TheVariants.{Usage, CannotWrite, OutOfMemory}
+use Rattle.requests.specs.declared.tool.Tool.{Tool}
 
 -- The request: a session, or help or the version. `Are` holds for the words of the session, and `Has` for the classes of the errors
 -- that the words can have.
@@ -19,7 +22,7 @@ abbrev pub IsRequestOf : {W : Type 0} → (W → Type 0) → (ErrorClass → Typ
 IsRequestOf Are Has (Session w) = Are w
 IsRequestOf Are Has (Information text) = Has outcome.Information
 
--- Why words have no request: they are a usage error, or an allocation failed.
+-- Why clap does not take words: they are a usage error, or an allocation failed.
 abbrev pub FailsToParse : (ErrorClass → Type 0) → Fault → Type 0
 FailsToParse Has (Usage text) = Has outcome.UsageError
 FailsToParse Has OutOfMemory = Unit {0}
@@ -30,6 +33,19 @@ abbrev pub IsUsageError : List ℕ → Fault → Type 0
 IsUsageError message (Usage text) = string_bytes text ≡ message
 IsUsageError message OutOfMemory = Unit {0}
 IsUsageError message fault = ⊥
+
+-- Two options of the words exclude each other, or one needs another that is not given, by the first of these checks that fails. `Are` holds
+-- for the values of the words.
+pub record RefusesOptions {W : Type 0} (tool : Tool) (Are : W → Type 0) (checks : W → List Check) (fault : Fault) : Type 0 where
+  pub w : W
+  pub are : Are w
+  pub clash : Clash
+  pub first : Some (names_in clash) ≡ first_failed (checks w)
+  pub message : IsUsageError (usage_text tool (clash_reason clash)) fault
+
+-- Why words are not taken: for clap's reason, or because of their options.
+abbrev pub FailsToTake : {W : Type 0} → Tool → (ErrorClass → Type 0) → (W → Type 0) → (W → List Check) → Fault → Type 0
+FailsToTake tool Has Are checks fault = FailsToParse Has fault ⊎ RefusesOptions tool Are checks fault
 
 -- Some text, as help or the version, was written, or a prefix of it if the result is an error.
 abbrev pub WritesSomeText : {T E : Type 0} → Output → Output → Result T E → Type 0

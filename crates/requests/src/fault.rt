@@ -1,7 +1,8 @@
-ghost use Rattle.std.specs.Prelude.{◌≡◌, IfOk, IfSome, IfNone, string_bytes};
+ghost use Rattle.std.specs.Prelude.{◌≡◌, IfOk, IfErr, string_bytes};
 ghost use Rattle.requests.specs.FaultReports.{ReportsFaultOrMemory, value_text};
 ghost use Rattle.streams.specs.Streams.{WritesOrFails};
 
+use crate::shown::message_line;
 use crate::tool::Tool;
 use folders::Failure;
 use loading::LoadFault;
@@ -109,8 +110,30 @@ impl From<RuleFault> for Fault<'_> {
     }
 }
 
+/// The message of an error, each of its lines with its 0AH.
+#[derive(Drop)]
+enum Message<'s> {
+    /// One that needs no memory.
+    Fixed(&'s str),
+    /// One with a path, name or number in it.
+    Made(Vec<u8>),
+}
+
+impl Message<'_> {
+    ghost use Rattle.requests.specs.FaultReports.{bytes_of};
+
+    fn as_bytes(&self) -> &[u8]
+        ensures { result.now ≡ bytes_of self.now }
+    {
+        match self {
+            Message::Fixed(text) => text.as_bytes(),
+            Message::Made(text) => text.as_slice(),
+        }
+    }
+}
+
 impl Fault<'_> {
-    ghost use Rattle.requests.specs.FaultReports.{NamesAValue, message_of, status_of};
+    ghost use Rattle.requests.specs.FaultReports.{NamesAValue, bytes_of, message_of, status_of};
 
     /// Returns the exit status: 1 for a usage error, an I/O error, invalid host files or a refused session, 2 for an edit line,
     /// 12 for out of memory.
@@ -124,49 +147,32 @@ impl Fault<'_> {
         }
     }
 
-    // Returns the message, if no path, name or number has to be put into it.
-    fn fixed_message(&self, tool: Tool) -> Option<&str>
-        ensures some { IfSome result (λ s. s.now ≡ message_of tool self.now) }
-        ensures none { IfNone result (NamesAValue self.now) }
+    // Returns the message. It is one line, except for a usage error and for disks that are unchanged.
+    fn message(&self, alloc: Global, tool: Tool) -> Result<Message<'_>, AllocError>
+        ensures made { IfOk result (λ message. bytes_of message ≡ message_of tool self.now) }
+        ensures memory { IfErr result (λ _. NamesAValue self.now) }
     {
-        match self {
-            Fault::Usage(text) => Some(text.as_str()),
-            Fault::NotText => Some(tool.not_text()),
-            Fault::CannotWrite => Some(tool.cannot_write()),
-            Fault::DiskUnchanged => Some(tool.disk_unchanged()),
-            Fault::OutOfMemory => Some(tool.out_of_memory()),
-            _ => None,
-        }
-    }
-
-    /// Returns the message, each of its lines with its 0AH. It is one line, except for a usage error.
-    pub fn message(&self, alloc: Global, tool: Tool) -> Result<String, AllocError>
-        ensures { IfOk result (λ s. string_bytes s ≡ message_of tool self.now) }
-    {
-        let name = tool.name();
-        match self {
-            Fault::Usage(text) => String::from_str(alloc, text.as_str()),
-            Fault::NotText => String::from_str(alloc, tool.not_text()),
+        let line = match self {
+            Fault::Usage(text) => return Ok(Message::Fixed(text.as_str())),
+            Fault::NotText => return Ok(Message::Fixed(tool.not_text())),
+            Fault::CannotWrite => return Ok(Message::Fixed(tool.cannot_write())),
+            Fault::DiskUnchanged => return Ok(Message::Fixed(tool.disk_unchanged())),
+            Fault::OutOfMemory => return Ok(Message::Fixed(tool.out_of_memory())),
             Fault::BadEscape(text) => {
-                value_text(
-                    alloc,
-                    text,
-                    "--typed <TEXT>",
-                    "unknown escape after a backslash",
-                )
+                let mistake = "unknown escape after a backslash";
+                let text = value_text(alloc, text, "--typed <TEXT>", mistake)?;
+                return Ok(Message::Made(text.into_bytes()));
             }
-            Fault::CannotRead(path) => format!(in alloc; "{name}: cannot read {path}\n"),
-            Fault::CannotWrite => String::from_str(alloc, tool.cannot_write()),
-            Fault::DiskUnchanged => String::from_str(alloc, tool.disk_unchanged()),
-            Fault::Folders(fault) => format!(in alloc; "{name}: {fault}\n"),
-            Fault::Refused(number) => format!(in alloc; "{name}: session refused {number}\n"),
-            Fault::Malformed(line) => format!(in alloc; "{name}: line {line} is malformed\n"),
-            Fault::TooLong(line) => format!(in alloc; "{name}: line {line} is too long\n"),
+            Fault::CannotRead(path) => format!(in alloc; "cannot read {path}")?,
+            Fault::Folders(fault) => format!(in alloc; "{fault}")?,
+            Fault::Refused(number) => format!(in alloc; "session refused {number}")?,
+            Fault::Malformed(line) => format!(in alloc; "line {line} is malformed")?,
+            Fault::TooLong(line) => format!(in alloc; "line {line} is too long")?,
             Fault::RulePath(path) => {
-                format!(in alloc; "{name}: a rule for make cannot have the path {path}\n")
+                format!(in alloc; "a rule for make cannot have the path {path}")?
             }
-            Fault::OutOfMemory => String::from_str(alloc, tool.out_of_memory()),
-        }
+        };
+        Ok(Message::Made(message_line(alloc, tool, line.as_str())?))
     }
 }
 
@@ -196,13 +202,9 @@ fn write_message<E: Writer>(err: &mut E, text: &[u8])
 pub fn report_fault<E: Writer>(alloc: Global, tool: Tool, fault: Fault<'_>, err: &mut E) -> u8
     ensures { ReportsFaultOrMemory tool fault.entry result (E.output err.old) (E.output err.new) }
 {
-    if let Some(text) = fault.fixed_message(tool) {
-        write_message(err, text.as_bytes());
-        return fault.status();
-    }
     match fault.message(alloc, tool) {
-        Ok(text) => {
-            write_message(err, text.as_bytes());
+        Ok(message) => {
+            write_message(err, message.as_bytes());
             fault.status()
         }
         Err(AllocError) => {

@@ -1,7 +1,7 @@
 // The request in the words of a command line.
 
-ghost use Rattle.std.specs.Prelude.{◌≡◌, IfOk, IfErr};
-ghost use Rattle.requests.specs.FaultReports.{value_text};
+ghost use Rattle.std.specs.Prelude.{◌≡◌, IfOk, IfErr, string_bytes};
+ghost use Rattle.requests.specs.FaultReports.{clash_reason, usage_text, value_text};
 ghost use Rattle.requests.specs.Requests.{FailsToParse, IsRequestOf, IsUsageError, WritesSomeText};
 
 use crate::fault::{Fault, value_text};
@@ -39,36 +39,39 @@ pub fn request_of_error<'a, W>(
     }
 }
 
-// Returns the text of the usage error of a clash, worded as `clap` words it.
-fn clash_text(alloc: Global, tool: Tool, clash: Clash) -> Result<String, AllocError> {
-    let reason = match clash {
+// Returns the reason of a clash, worded as `clap` words it.
+fn clash_reason(alloc: Global, clash: Clash) -> Result<String, AllocError>
+    ensures { IfOk result (λ s. string_bytes s ≡ clash_reason clash) }
+{
+    match clash {
         Clash::Both(first, second) => {
-            format!(in alloc; "the argument '{first}' cannot be used with '{second}'")?
+            format!(in alloc; "the argument '{first}' cannot be used with '{second}'")
         }
         Clash::SameFolder(first, second) => {
             format!(in alloc;
                 "the argument '{first}' cannot be used with '{second}': both are the same folder"
-            )?
+            )
         }
         Clash::Missing(option) => {
-            format!(in alloc; "the following required arguments were not provided:\n  {option}")?
+            format!(in alloc; "the following required arguments were not provided:\n  {option}")
         }
-    };
+    }
+}
+
+// Returns the text of the usage error of a clash, worded as `clap` words it.
+fn clash_text(alloc: Global, tool: Tool, clash: Clash) -> Result<String, AllocError>
+    ensures { IfOk result (λ s. string_bytes s ≡ usage_text tool (clash_reason clash)) }
+{
+    let reason = clash_reason(alloc, clash)?;
     let name = tool.name();
     format!(in alloc;
-        "\
-error: {reason}
-
-Usage: {name} [OPTIONS] <PROGRAM> [TAIL]
-
-For more information, try '--help'.
-"
+        "error: {reason}\n\nUsage: {name} [OPTIONS] <PROGRAM> [TAIL]\n\nFor more information, try '--help'.\n"
     )
 }
 
-/// Returns the usage error of words with two options that exclude each other, or with one that lacks another.
+/// Returns the usage error of words with two options that exclude each other, or with one that needs another.
 pub fn clash_fault<'a>(alloc: Global, tool: Tool, clash: Clash) -> Fault<'a>
-    ensures { FailsToParse (λ outcome. outcome ≡ ErrorClass.UsageError) result }
+    ensures { IsUsageError (usage_text tool (clash_reason clash)) result }
 {
     match clash_text(alloc, tool, clash) {
         Ok(text) => Fault::Usage(text),

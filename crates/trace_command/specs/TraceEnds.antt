@@ -2,8 +2,7 @@
 use Rattle.std.specs.Prelude.{◌≡◌, ℕ, ◌⊎◌, List, Some}
 use Rattle.command_words.specs.ErrorClass.{HasErrorClass}
 use Rattle.command_words.specs.TraceLine.{trace_faults}
-use Rattle.command_words.specs.declared.error_classes.ErrorClass.{ErrorClass}
-use Rattle.command_words.specs.declared.error_classes.ErrorClass.TheVariants.{Information, UsageError}
+use Rattle.command_words.specs.declared.error_classes.ErrorClass.TheVariants.{Information}
 use Rattle.command_words.specs.declared.trace_words.TraceWords.{TraceWords}
 use Rattle.loading.specs.Loading.{IsLoadedFrom}
 use Rattle.machine.specs.Inputs.{Session}
@@ -14,11 +13,11 @@ use Rattle.trace_filters.specs.declared.choice.Choice.{Choice}
 use Rattle.tracing.specs.declared.fault.TraceFault.{TraceFault}
 use Rattle.tracing.specs.declared.fault.TraceFault.TheVariants as trace
 use Rattle.requests.specs.FaultReports.{EndsWithFault}
-use Rattle.requests.specs.Requests.{FailsToInform, FailsToLoadSession, FailsToParse, IsUsageError, WritesNothing}
+use Rattle.requests.specs.Requests.{FailsToInform, FailsToLoadSession, IsUsageError, WritesNothing}
 use Rattle.requests.specs.declared.fault.Fault.{Fault}
 use Rattle.requests.specs.declared.fault.Fault.TheVariants.{CannotWrite, OutOfMemory}
 use Rattle.requests.specs.declared.tool.Tool.TheVariants.{Cpmtrace}
-use Rattle.trace_command.specs.AreTraceWords.{AreTraceWords, Clash}
+use Rattle.trace_command.specs.AreTraceWords.{AreTraceWords, RefusesWords}
 use Rattle.trace_command.specs.Choices.{IsBadValueOf, bad_value_text, choice_of}
 use Rattle.trace_command.specs.declared.choice.BadValue.{BadValue}
 
@@ -51,10 +50,6 @@ pub record EndsWithTrace (words : List (List ℕ)) (status : ℕ) (before after 
   pub failed : after.files.failed ≡ before.files.failed
   pub writes : Informs words before after ⊎ TracesWords words before after
 
--- The words are a usage error: for clap, or since they have two options that exclude each other.
-abbrev pub HasFaultClass : List (List ℕ) → ErrorClass → Type 0
-HasFaultClass words outcome = HasErrorClass (trace_faults words) outcome ⊎ ((outcome ≡ UsageError) × Clash words)
-
 -- The words have a value that its option cannot have.
 abbrev pub RefusesValue : TraceWords → Fault → Type 0
 RefusesValue w fault = (bad : BadValue) × IsBadValueOf w bad × IsUsageError (bad_value_text bad) fault
@@ -67,7 +62,7 @@ BreaksAnswer text before after fault = (f : TraceFault) × (fault ≡ of_trace f
 -- if there is none, of loading the session or of its trace.
 abbrev pub FaultOf : List (List ℕ) → World → World → Fault → Type 0
 FaultOf words before after fault =
-    (FailsToParse (HasFaultClass words) fault × WritesNothing before after)
+    (RefusesWords words fault × WritesNothing before after)
     ⊎ FailsToInform (HasErrorClass (trace_faults words)) before after fault
     ⊎ ((w : TraceWords) × AreTraceWords words w × ((RefusesValue w fault × WritesNothing before after)
     ⊎ ((choice : Choice) × (choice_of w ≡ Some choice) × (FailsToLoadSession w.session before after fault

@@ -3,9 +3,8 @@
 ghost use Rattle.std.specs.Prelude.{IfOk, IfErr, map, string_bytes};
 ghost use Rattle.command_words.specs.ErrorClass.{HasErrorClass};
 ghost use Rattle.command_words.specs.TraceLine.{trace_faults};
-ghost use Rattle.requests.specs.Requests.{IsRequestOf, FailsToParse};
-ghost use Rattle.trace_command.specs.AreTraceWords.{AreTraceWords};
-ghost use Rattle.trace_command.specs.TraceEnds.{HasFaultClass};
+ghost use Rattle.requests.specs.Requests.{IsRequestOf};
+ghost use Rattle.trace_command.specs.AreTraceWords.{AreTraceWords, RefusesWords};
 
 use command_words::{TraceWords, error_class, read_trace_words};
 use requests::{Fault, Request, Tool, clash_fault, request_of_error};
@@ -18,8 +17,7 @@ pub fn read_request<'a>(
 ) -> Result<Request<TraceWords<'a>>, Fault<'a>>
     ensures request { let texts = map string_bytes words.entry.now in
         IfOk result (IsRequestOf (AreTraceWords texts) (HasErrorClass (trace_faults texts))) }
-    ensures fault { IfErr result
-        (FailsToParse (HasFaultClass (map string_bytes words.entry.now))) }
+    ensures fault { IfErr result (RefusesWords (map string_bytes words.entry.now)) }
 {
     match read_trace_words(alloc, words) {
         Ok(words) => match words.clash() {
