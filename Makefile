@@ -10,11 +10,11 @@
 # make clean                    removes what was proved and built
 PREFIX = /usr/local
 DESTDIR =
-PROGRAM = crates/executable/out/executable
-DEPENDENCIES_PROGRAM = crates/cpmdeps/out/cpmdeps
-TRACE_PROGRAM = crates/cpmtrace/out/cpmtrace
+PROGRAM = out/cpmrun
+DEPENDENCIES_PROGRAM = out/cpmdeps
+TRACE_PROGRAM = out/cpmtrace
 # what is installed, as it lies below PREFIX
-STAGE = crates/executable/out/stage
+STAGE = out/stage
 DOC = share/doc/cpmrun
 # An installed page says `cpmrun` for `./cpmrun`.
 PAGE = s,(\.\./)+(cpmrun|cpmdeps|cpmtrace|cpmtools),\2,g; s,\./(cpmrun|cpmdeps|cpmtrace|cpmtools),\1,g; s,tests/programs/,programs/,g; s,\.\./docs/,../,g
@@ -70,4 +70,4 @@ pages: all
 	@scripts/tool_pages
 
 clean:
-	@rm -rf crates/*/out
+	@rm -rf out crates/*/out

@@ -19,9 +19,9 @@ sys.path.insert(0, str(TOP / 'python'))
 
 from vembrusk.assembler import assemble  # noqa: E402
 
-PROGRAM = Path(os.environ.get('PROGRAM', TOP / 'crates/executable/out/executable')).resolve()
-DEPENDENCIES_PROGRAM = Path(os.environ.get('DEPENDENCIES_PROGRAM', TOP / 'crates/cpmdeps/out/cpmdeps')).resolve()
-TRACE_PROGRAM = Path(os.environ.get('TRACE_PROGRAM', TOP / 'crates/cpmtrace/out/cpmtrace')).resolve()
+PROGRAM = Path(os.environ.get('PROGRAM', TOP / 'out/cpmrun')).resolve()
+DEPENDENCIES_PROGRAM = Path(os.environ.get('DEPENDENCIES_PROGRAM', TOP / 'out/cpmdeps')).resolve()
+TRACE_PROGRAM = Path(os.environ.get('TRACE_PROGRAM', TOP / 'out/cpmtrace')).resolve()
 HI = TOP / 'examples/hi/hi.com'
 OUT_OF_MEMORY = 'cpmrun: out of memory\n'
 

@@ -105,12 +105,12 @@ class Build(unittest.TestCase):
         with open(reads, 'rb', buffering=0) as terminal:
             return terminal.read(4096).decode().removeprefix(CLEAR)
 
-    def end(self, build, status, crate='executable'):
+    def end(self, build, status, name='cpmrun'):
         """Waits for a build, which leaves no process and no room, and returns what it printed and the crates that it proved."""
         printed = build.communicate()[0]
         self.errors = (self.work / 'err').read_text()
         self.assertEqual(build.returncode, status, self.errors)
-        self.assertFalse((self.crates / 'executable/out/rooms').exists())
+        self.assertFalse((self.tree / 'out/rooms').exists())
         for process in (self.notes / 'processes').read_text().split():
             with self.subTest(process), self.assertRaises(ProcessLookupError, msg='a process is left'):
                 if Path('/proc', process, 'stat').exists() and ') Z ' in Path('/proc', process, 'stat').read_text():
@@ -118,7 +118,7 @@ class Build(unittest.TestCase):
                 os.kill(int(process), 0)
         self.log = (self.notes / 'log').read_text().splitlines()
         if status == 0:
-            self.assertEqual(printed, f'{self.crates}/{crate}/out/{crate}\n')
+            self.assertEqual(printed, f'{self.tree}/out/{name}\n')
         return sorted(line[5:] for line in self.log if line.startswith('ends '))
 
     def change(self, crate):
@@ -169,12 +169,12 @@ class Build(unittest.TestCase):
     def test_the_key_for_an_interrupt_leaves_nothing(self):
         for count in 0, 1, 4:
             shown = self.build_on_terminal(-signal.SIGINT, f'cpmrun: {count} of 6 crates')
-            messages = [line for text in shown for line in text.splitlines() if not line.startswith((FIRST, 'make: *** ['))]
+            messages = [line for text in shown for line in text.splitlines() if not line.startswith((FIRST, 'make: *** '))]
             self.assertEqual((shown[-1], [line for line in messages if not re.match(r'cpmrun: \d of 6 crates proved', line)]), ('', []))
         self.assertEqual(self.end(self.start(), 0)[0], 'executable')
 
     def test_the_minutes_that_are_left(self):
-        rooms = self.crates / 'executable/out/rooms'
+        rooms = self.tree / 'out/rooms'
         rooms.mkdir(parents=True)
         now = time.time()
         for before, proved, shown in (
@@ -213,7 +213,7 @@ class Build(unittest.TestCase):
             (self.notes / f'fails-{crate}').touch()
             self.assertEqual(self.end(self.start(), 1), proved)
             self.assertIn(f'no proof of {crate}\n', self.errors)
-            self.assertEqual((self.crates / 'executable/out/executable').exists(), was_built and crate != 'executable')
+            self.assertEqual((self.tree / 'out/cpmrun').exists(), was_built and crate != 'executable')
             (self.notes / f'fails-{crate}').unlink()
             self.assertEqual(self.end(self.start(), 0), left)
 
