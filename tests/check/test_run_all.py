@@ -8,7 +8,7 @@ import subprocess
 import time
 from pathlib import Path
 
-from helpers import TOP, ProgramTest
+from helpers import TOP, WorkTest
 
 MODULES = {
     'test_good': 'def test_one(self): print("good")\n    def test_two(self): pass',
@@ -36,7 +36,7 @@ SLOW = '''def test_slow(self):
 """A test that waits for a process of its group, and for one of another session, which it ends itself."""
 
 
-class RunAllTest(ProgramTest):
+class RunAllTest(WorkTest):
 
     def setUp(self) -> None:
         super().setUp()
@@ -134,11 +134,11 @@ class RunAllTest(ProgramTest):
                 self.expect_ended(process)
 
 
-class CheckTest(ProgramTest):
+class CheckTest(WorkTest):
 
     def setUp(self) -> None:
         super().setUp()
-        for folder in 'bin', 'tests/check', 'crates/test_runner/out':
+        for folder in 'bin', 'scripts', 'tests/check', 'crates/test_runner/out':
             (self.work / folder).mkdir(parents=True)
         shutil.copy(TOP / 'check', self.work)
         self.make_script('crates/test_runner/out/test_runner', '')
@@ -148,11 +148,12 @@ class CheckTest(ProgramTest):
     def make_script(self, name: str, text: str) -> None:
         self.put(name, f'#!/bin/sh\n{text}\n').chmod(0o755)
 
-    def check(self, of_rt: str, of_tests: str) -> tuple[int, list[str]]:
-        """Returns the status, and the lines of what is printed, if these are commands in place of `rt ci` and of the tests."""
-        self.make_script('bin/rt', f'[ "$*" = ci ] || exit 9\n{of_rt}')
+    def check(self, of_rt: str, of_tests: str, *crates: str) -> tuple[int, list[str]]:
+        """Returns the status, and the lines of what is printed, if these are commands in place of `rt` and of the tests."""
+        self.make_script('bin/rt', of_rt)
         self.make_script('tests/check/run_all.py', of_tests)
-        done = self.run_with_children('./check', env={'PATH': f'{self.work}/bin:/usr/bin:/bin'}, cwd=self.work, stderr=subprocess.STDOUT)
+        env = {'PATH': f'{self.work}/bin:/usr/bin:/bin', 'PROGRAM': 'another'}
+        done = self.run_with_children('./check', *crates, env=env, cwd=self.work, stderr=subprocess.STDOUT)
         return done.returncode, done.stdout.decode().splitlines()
 
     def test_the_sum_is_of_both(self) -> None:
@@ -165,7 +166,7 @@ class CheckTest(ProgramTest):
             (f'{good}; exit 1', good, 1, '6 passed, 1 failed'), (good, f'{good}; kill -9 $$', 1, '6 passed, 1 failed'),
         ]:
             with self.subTest(rt=of_rt, tests=of_tests):
-                found, lines = self.check(of_rt, of_tests)
+                found, lines = self.check(f'[ "$*" = ci ] || exit 9\n{of_rt}', of_tests)
                 self.assertEqual((found, lines[-1]), (status, line))
 
     def test_the_tests_get_the_built_programs(self) -> None:
@@ -173,3 +174,80 @@ class CheckTest(ProgramTest):
         found, lines = self.check('echo "3 passed, 0 failed"', f'echo {" ".join(f"${name}" for name in names)}\necho "1 passed, 0 failed"')
         self.assertEqual(found, 0)
         self.assertIn('the-cpmrun the-cpmdeps the-cpmtrace crates/test_runner/out/test_runner', lines)
+
+    def test_one_crate_up_to_the_first_step_that_fails(self) -> None:
+        steps = ['crates/test_runner rt check', '. rt must-fail one', '. ./cpmrun --build', '. tests/check/run_all.py test_one test_two']
+        self.make_script('scripts/crate_steps', '[ "$*" = one ] || { echo "no such crate" >&2; exit 1; }\n' + '\n'.join(f'echo {step}' for step in steps))
+        done = 'echo "in ${PWD##*/}: $*"'
+        tests = f'{done} $PROGRAM\necho "5 passed, 0 failed"'
+        status, lines = self.check(done, tests, 'one')
+        self.assertEqual((status, lines[-1]), (0, '8 passed, 0 failed'))
+        self.assertEqual([line for line in lines if not line.startswith('check: ')],
+                         ['in test_runner: check', f'in {self.work.name}: must-fail one', 'the-cpmrun', f'in {self.work.name}: test_one test_two',
+                          '5 passed, 0 failed', '8 passed, 0 failed'])
+        for of_rt, of_tests, last in [(f'{done}; exit 2', tests, '0 passed, 1 failed'), (f'{done}; [ "$1" = check ]', tests, '1 passed, 1 failed'),
+                                      (done, 'echo "5 passed, 2 failed"; exit 1', '8 passed, 2 failed'), (done, 'exit 1', '3 passed, 1 failed'),
+                                      (done, 'echo broken', '3 passed, 1 failed')]:
+            with self.subTest(rt=of_rt, tests=of_tests):
+                status, lines = self.check(of_rt, of_tests, 'one')
+                self.assertEqual((status, lines[-1]), (1, last))
+        self.assertEqual(self.check(done, tests, 'two'), (1, ['no such crate']))
+
+
+class StepsTest(WorkTest):
+    """What `make check CRATE=..` does, in a tree of small crates."""
+
+    CRATES = """ground:
+above: ground clap
+main_of: above
+executable: main_of
+# tests
+test_above: above
+test_ground: ground
+test_runner: ground
+"""
+    FILES = {
+        'rules': 'from helpers import TOP, RuleTest', 'ran': 'from helpers import HI, PROGRAM, TOP', 'named': "PLACE = 'above/src/lib.rt'",
+        'path': '# crates/above', 'word': "# above PROGRAM\nimport above\nPLACE = 'aboveness'", 'item': '# it is above::item\nfrom failures import FailureTest',
+        'played': 'from playing import Play\nfrom failures import FailureTest', 'traced': 'from helpers import TRACE_PROGRAM, ProgramTest',
+        'listed': 'from helpers import DEPENDENCIES_PROGRAM',
+    }
+    """The text of files of tests, by their names without `test_`."""
+
+    def setUp(self) -> None:
+        super().setUp()
+        for line in self.CRATES.splitlines():
+            (self.work / 'crates' / line.partition(':')[0] / 'src').mkdir(parents=True)
+        (self.work / 'crates/above/must-fail').mkdir()
+        self.put('crates/above/must-fail/one.edit', '')
+        self.put('crates/test_above/src/lib.rt', '#[test]\nfn test_it() {}\n')
+        self.put('crates/test_runner/src/main.rt', 'fn main() {}\n')
+        self.put('crates.txt', self.CRATES)
+        shutil.copytree(TOP / 'python/vembrusk', self.work / 'python/vembrusk')
+        shutil.copytree(TOP / 'scripts', self.work / 'scripts')
+        for name in 'Makefile', 'check':
+            shutil.copy(TOP / name, self.work)
+        (self.work / 'tests/check').mkdir(parents=True)
+        shutil.copy(TOP / 'tests/check/helpers.py', self.work / 'tests/check')
+        for name, text in self.FILES.items():
+            self.put(f'tests/check/test_{name}.py', f'{text}\n')
+
+    def expect_steps(self, crate: str, files: str, *steps: str) -> None:
+        """Expects these steps, and last that these files of tests are run."""
+        last = f'. tests/check/run_all.py {" ".join(f"test_{name}" for name in files.split())}'
+        self.expect_command(0, '\n'.join([*steps, last, '']), '', self.work / 'scripts/crate_steps', crate)
+
+    def test_the_steps_of_each_kind_of_crate(self) -> None:
+        run, build = 'crates/test_runner rt run -- data/commands', '. ./cpmrun --build'
+        self.expect_steps('above', 'item named path rules', 'crates/above rt check', '. rt must-fail above', 'crates/test_above rt test', build)
+        self.expect_steps('ground', 'played rules', 'crates/ground rt check', 'crates/test_ground rt check', 'crates/test_runner rt check', run)
+        self.expect_steps('test_runner', 'played rules', 'crates/test_runner rt check', run)
+        self.expect_steps('test_above', 'rules', 'crates/test_above rt test')
+        self.expect_steps('executable', 'item ran rules traced', 'crates/executable rt check', build, '. ./cpmtrace --build')
+        self.expect_steps('main_of', 'rules', 'crates/main_of rt check')
+
+    def test_there_must_be_such_a_crate(self) -> None:
+        for crate in 'none', 'clap', 'test', '.':
+            done = self.run_command('make', '-s', '-C', self.work, 'check', f'CRATE={crate}')
+            self.assertEqual((done.returncode, done.stdout), (2, b''))
+            self.assertEqual(done.stderr.decode().splitlines()[0], f'check: {crate} is no crate of crates.txt')
