@@ -9,7 +9,7 @@ from collections.abc import Iterator
 from dataclasses import replace
 from pathlib import Path
 
-from cases import EDIT, RUN, command_of, name_of, parse_kept, spell_kept
+from case_files import EDIT, RUN, command_of, name_of, parse_kept, spell_kept
 from helpers import TOP
 from vembrusk.assembler import assemble
 from vembrusk.cases import LIMIT, Case, CaseError, Command, Outcome, Setup, digits, line_of, parse_bytes, parse_outcome, spell

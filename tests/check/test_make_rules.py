@@ -6,7 +6,7 @@ from concurrent.futures import ThreadPoolExecutor
 from pathlib import Path
 
 from helpers import DEPENDENCIES_PROGRAM
-from test_dependencies import OPEN_TWO, SEARCH, DependenciesTest
+from test_listing import OPEN_TWO, SEARCH, DependenciesTest
 
 READ_AND_SEARCH = bytes.fromhex('0E01 CD0500 0E11 115C00 CD0500 C9')
 """Reads a byte of the script, and then searches the name of its tail: MVI C,1; CALL 5; MVI C,17; LXI D,5CH; CALL 5; RET."""

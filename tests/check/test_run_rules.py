@@ -5,7 +5,7 @@ from pathlib import Path
 
 from failures import FailureTest, Wanted
 from helpers import DEPENDENCIES_PROGRAM, HI, PROGRAM
-from test_dependencies import DependenciesTest
+from test_listing import DependenciesTest
 
 WARM = b'stop WarmBoot\n'
 
