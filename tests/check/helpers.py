@@ -25,12 +25,12 @@ TRACE_PROGRAM = Path(os.environ.get('TRACE_PROGRAM', TOP / 'out/cpmtrace')).reso
 HI = TOP / 'examples/hi/hi.com'
 OUT_OF_MEMORY = 'cpmrun: out of memory\n'
 
-RENAME = bytes.fromhex('0e17 115c00 cd0500 c9')
-"""Renames the first name of its tail to the second: MVI C,23; LXI D,5CH; CALL 5; RET."""
+RENAME = assemble(['MVI C,23; LXI D,5CH; CALL 5; RET'])
+"""Renames the first name of its tail to the second."""
 
-DRIVES = bytes.fromhex('3e01 325c00 115c00 0e13 cd0500 0e16 cd0500 0e15 cd0500 3a5c00 3c fe05 c20201 c9')
-"""On each drive deletes the first name of its tail, makes it, and writes one record after the place where the drive before ended:
-MVI A,1; and then STA 5CH; LXI D,5CH; MVI C,19; CALL 5; MVI C,22; CALL 5; MVI C,21; CALL 5; LDA 5CH; INR A; CPI 5; JNZ to the STA; RET."""
+DRIVES = assemble(['MVI A,1', 'drive: STA 5CH; LXI D,5CH; MVI C,19; CALL 5; MVI C,22; CALL 5; MVI C,21; CALL 5',
+                   'LDA 5CH; INR A; CPI 5; JNZ drive; RET'])
+"""On each drive deletes the first name of its tail, makes it, and writes one record after the place where the drive before ended."""
 
 
 RECORD = b'new' + bytes(125)
