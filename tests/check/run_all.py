@@ -26,6 +26,9 @@ ALONE = {
     'test_build.Build.test_each_crate_is_proved_after_those_that_it_uses_and_beside_the_others': 'two waits of 0.6 s must overlap',
     'test_build.Build.test_a_terminal_has_one_line_which_is_written_again': 'counts the lines that are written during waits',
     'test_command.InputTest.test_a_start_is_short': 'measures the time of a start',
+    'test_devices.Devices.test_no_line_is_executed_after_a_failed_reply': 'must end within 8 s',
+    'test_devices.Devices.test_a_run_ends_soon_after_its_text_fails': 'must end within 8 s',
+    'test_trace_failures.DeviceTest.test_a_trace_ends_soon_after_a_failure': 'must end within 8 s',
 }
 """The tests that run alone, each with the reason."""
 
@@ -84,15 +87,17 @@ class Runner:
         os.waitid(os.P_PID, process.pid, os.WEXITED | os.WNOWAIT)
         with self.changed:
             os.killpg(process.pid, signal.SIGKILL)
-            status = process.wait()
+            _, status, used = os.wait4(process.pid, 0)
+            process.returncode = os.waitstatus_to_exitcode(status)
             self.running.remove(process)
             self.changed.notify()
         report = self.room / f'{name}.report'
-        passed, *failed = report.read_text().splitlines() if report.exists() else ['0', f'{name}: no count, and status {status}']
+        passed, *failed = report.read_text().splitlines() if report.exists() else ['0', f'{name}: no count, and status {process.returncode}']
         if status and not failed:
-            failed = [f'{name}: status {status}']
+            failed = [f'{name}: status {process.returncode}']
         text = (self.room / f'{name}.text').read_text(errors='replace')
-        return Outcome(int(passed), failed, f'{name}: {time.monotonic() - begun:.0f} s\n{text}')
+        times = f'{time.monotonic() - begun:.0f} s, and {used.ru_utime + used.ru_stime:.1f} s of processors'
+        return Outcome(int(passed), failed, f'{name}: {times}\n{text}')
 
     def start(self, name: str) -> subprocess.Popen:
         """Starts a process, unless all are to end. It ignores no signal, even if this process does."""
