@@ -1,5 +1,6 @@
 # make                          proves and builds cpmrun, cpmdeps and cpmtrace
 # make check                    proves everything, and runs all tests
+# make check CRATE=replay       proves a crate, tries its must-fail edits, and runs the tests that name it
 # make install PREFIX=/usr/local DESTDIR=
 #                               installs the programs, their man pages, their completion for bash, and their pages and examples
 # make uninstall                removes these files
@@ -10,11 +11,11 @@
 # make clean                    removes what was proved and built
 PREFIX = /usr/local
 DESTDIR =
-PROGRAM = crates/executable/out/executable
-DEPENDENCIES_PROGRAM = crates/cpmdeps/out/cpmdeps
-TRACE_PROGRAM = crates/cpmtrace/out/cpmtrace
+PROGRAM = out/cpmrun
+DEPENDENCIES_PROGRAM = out/cpmdeps
+TRACE_PROGRAM = out/cpmtrace
 # what is installed, as it lies below PREFIX
-STAGE = crates/executable/out/stage
+STAGE = out/stage
 DOC = share/doc/cpmrun
 # An installed page says `cpmrun` for `./cpmrun`.
 PAGE = s,(\.\./)+(cpmrun|cpmdeps|cpmtrace|cpmtools),\2,g; s,\./(cpmrun|cpmdeps|cpmtrace|cpmtools),\1,g; s,tests/programs/,programs/,g; s,\.\./docs/,../,g
@@ -27,7 +28,7 @@ all:
 	@./cpmtrace --build > /dev/null
 
 check:
-	@./check
+	@./check $(CRATE)
 
 # Others can read and run what is installed, whatever the umask is.
 stage: all
@@ -70,4 +71,4 @@ pages: all
 	@scripts/tool_pages
 
 clean:
-	@rm -rf crates/*/out
+	@rm -rf out crates/*/out

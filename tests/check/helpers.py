@@ -19,18 +19,18 @@ sys.path.insert(0, str(TOP / 'python'))
 
 from vembrusk.assembler import assemble  # noqa: E402
 
-PROGRAM = Path(os.environ.get('PROGRAM', TOP / 'crates/executable/out/executable')).resolve()
-DEPENDENCIES_PROGRAM = Path(os.environ.get('DEPENDENCIES_PROGRAM', TOP / 'crates/cpmdeps/out/cpmdeps')).resolve()
-TRACE_PROGRAM = Path(os.environ.get('TRACE_PROGRAM', TOP / 'crates/cpmtrace/out/cpmtrace')).resolve()
+PROGRAM = Path(os.environ.get('PROGRAM', TOP / 'out/cpmrun')).resolve()
+DEPENDENCIES_PROGRAM = Path(os.environ.get('DEPENDENCIES_PROGRAM', TOP / 'out/cpmdeps')).resolve()
+TRACE_PROGRAM = Path(os.environ.get('TRACE_PROGRAM', TOP / 'out/cpmtrace')).resolve()
 HI = TOP / 'examples/hi/hi.com'
 OUT_OF_MEMORY = 'cpmrun: out of memory\n'
 
-RENAME = bytes.fromhex('0e17 115c00 cd0500 c9')
-"""Renames the first name of its tail to the second: MVI C,23; LXI D,5CH; CALL 5; RET."""
+RENAME = assemble(['MVI C,23; LXI D,5CH; CALL 5; RET'])
+"""Renames the first name of its tail to the second."""
 
-DRIVES = bytes.fromhex('3e01 325c00 115c00 0e13 cd0500 0e16 cd0500 0e15 cd0500 3a5c00 3c fe05 c20201 c9')
-"""On each drive deletes the first name of its tail, makes it, and writes one record after the place where the drive before ended:
-MVI A,1; and then STA 5CH; LXI D,5CH; MVI C,19; CALL 5; MVI C,22; CALL 5; MVI C,21; CALL 5; LDA 5CH; INR A; CPI 5; JNZ to the STA; RET."""
+DRIVES = assemble(['MVI A,1', 'drive: STA 5CH; LXI D,5CH; MVI C,19; CALL 5; MVI C,22; CALL 5; MVI C,21; CALL 5',
+                   'LDA 5CH; INR A; CPI 5; JNZ drive; RET'])
+"""On each drive deletes the first name of its tail, makes it, and writes one record after the place where the drive before ended."""
 
 
 RECORD = b'new' + bytes(125)
@@ -131,7 +131,7 @@ class RuleTest(unittest.TestCase):
             self.fail('\n'.join(['', *lines, *advice.splitlines()]))
 
 
-class ProgramTest(unittest.TestCase):
+class WorkTest(unittest.TestCase):
     """A test with a folder of its own, `work`. Commands run at the top of the repository."""
 
     def setUp(self) -> None:
@@ -155,24 +155,6 @@ class ProgramTest(unittest.TestCase):
         how = {'stdin': subprocess.DEVNULL, 'stdout': subprocess.PIPE, 'stderr': subprocess.PIPE, 'cwd': TOP, **how}
         return subprocess.run([os.fspath(word) if isinstance(word, Path) else word for word in words], timeout=timeout, **how)
 
-    def expect(self, status: int, out: bytes | str, err: bytes | str, *words: object, **how) -> None:
-        """Expects this status, standard output and standard error of the program with these arguments."""
-        self.expect_command(status, out, err, PROGRAM, *words, **how)
-
-    def expect_command(self, status: int, out: bytes | str, err: bytes | str, *words: object, **how) -> None:
-        done = self.run_command(*words, **how)
-        wanted = tuple(text if isinstance(text, bytes) else text.encode() for text in (out, err))
-        self.assertEqual((done.returncode, done.stdout, done.stderr), (status, *wanted), [str(word)[:200] for word in words])
-
-    def expect_long(self, status: int, out: bytes | str, err: str, *words: object, **how) -> None:
-        """Expects the same as `expect`, for long output: a failure shows only where it begins to differ."""
-        done = self.run_command(PROGRAM, *words, **how)
-        wanted = out if isinstance(out, bytes) else out.encode()
-        self.assertEqual((done.returncode, done.stderr[:1000].decode()), (status, err), [str(word)[:200] for word in words])
-        if done.stdout != wanted:
-            same = len(os.path.commonprefix([done.stdout, wanted]))
-            self.fail(f'{len(done.stdout)} bytes of output; at {same}: {done.stdout[same:same + 100]!r} != {wanted[same:same + 100]!r}')
-
     def run_with_children(self, *words: object, timeout: float = 120, **how) -> subprocess.CompletedProcess:
         """Runs a command with nothing on standard input, and kills what it started and left running."""
         how = {'stdin': subprocess.DEVNULL, 'stdout': subprocess.PIPE, 'stderr': subprocess.PIPE, 'cwd': TOP, **how}
@@ -183,6 +165,32 @@ class ProgramTest(unittest.TestCase):
                 with contextlib.suppress(ProcessLookupError):
                     os.killpg(process.pid, signal.SIGKILL)
         return subprocess.CompletedProcess(words, process.returncode, out, err)
+
+    def expect_command(self, status: int, out: bytes | str, err: bytes | str, *words: object, **how) -> None:
+        done = self.run_command(*words, **how)
+        wanted = tuple(text if isinstance(text, bytes) else text.encode() for text in (out, err))
+        self.assertEqual((done.returncode, done.stdout, done.stderr), (status, *wanted), [str(word)[:200] for word in words])
+
+    def expect_names(self, folder: Path, *names: str) -> None:
+        """Expects exactly these names in a folder."""
+        self.assertEqual(sorted(os.listdir(folder)), sorted(names), folder)
+
+
+class ProgramTest(WorkTest):
+    """A test that runs the built program."""
+
+    def expect(self, status: int, out: bytes | str, err: bytes | str, *words: object, **how) -> None:
+        """Expects this status, standard output and standard error of the program with these arguments."""
+        self.expect_command(status, out, err, PROGRAM, *words, **how)
+
+    def expect_long(self, status: int, out: bytes | str, err: str, *words: object, **how) -> None:
+        """Expects the same as `expect`, for long output: a failure shows only where it begins to differ."""
+        done = self.run_command(PROGRAM, *words, **how)
+        wanted = out if isinstance(out, bytes) else out.encode()
+        self.assertEqual((done.returncode, done.stderr[:1000].decode()), (status, err), [str(word)[:200] for word in words])
+        if done.stdout != wanted:
+            same = len(os.path.commonprefix([done.stdout, wanted]))
+            self.fail(f'{len(done.stdout)} bytes of output; at {same}: {done.stdout[same:same + 100]!r} != {wanted[same:same + 100]!r}')
 
     @contextlib.contextmanager
     def held(self, *words: object) -> Iterator[subprocess.Popen]:
@@ -210,7 +218,3 @@ class ProgramTest(unittest.TestCase):
         """Expects this status, standard output and standard error of a process."""
         found = process.communicate(timeout=60)
         self.assertEqual((process.returncode, *found), (status, out.encode(), err.encode()))
-
-    def expect_names(self, folder: Path, *names: str) -> None:
-        """Expects exactly these names in a folder."""
-        self.assertEqual(sorted(os.listdir(folder)), sorted(names), folder)

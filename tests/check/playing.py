@@ -9,7 +9,7 @@ from collections.abc import Iterator
 from dataclasses import replace
 from pathlib import Path
 
-from cases import EDIT, RUN, command_of, name_of, parse_kept, spell_kept
+from case_files import EDIT, RUN, command_of, name_of, parse_kept, spell_kept
 from helpers import TOP
 from vembrusk.assembler import assemble
 from vembrusk.cases import LIMIT, Case, CaseError, Command, Outcome, Setup, digits, line_of, parse_bytes, parse_outcome, spell
@@ -21,8 +21,14 @@ SHORT = 150
 """The largest number of steps of a run that is also broken off after each of them."""
 PIECES = (1, 5, 4096)
 """The largest numbers of bytes of edit lines that are read at once."""
-SAVED = bytes.fromhex('019311 c5 f1')
-"""Sets the flags S, AC and CY: LXI B,1193H; PUSH B; POP PSW."""
+SPACINGS = range(1, 13)
+"""The spacings of checkpoints with which a short run is made again."""
+START = assemble(['LXI B,1193H; PUSH B; POP PSW'])
+"""Sets the flags S, AC and CY, at the start of a program of calls."""
+AT_START = {'A': 0x11, 'F': 0x93, 'B': 0x11, 'C': 0x93, 'D': 0, 'E': 0, 'H': 0, 'L': 0, 'SP': 0xFDFE, 'PC': 0}
+"""The registers after it."""
+AT_CALL = {'A': 0x11, 'B': 0x22, 'H': 0x33, 'L': 0x44}
+"""The registers that a call finds, beside its number in C and its parameter in DE."""
 
 
 def answers_in(out: str) -> list[list[str]]:
@@ -36,12 +42,12 @@ def answers_in(out: str) -> list[list[str]]:
     return answers
 
 
-def answers_to(commands: list[str], program: Path = SESSIONS) -> list[list[str]]:
+def answers_to(commands: list[str]) -> list[list[str]]:
     """Returns the lines of the answer to each command."""
     with tempfile.NamedTemporaryFile('w', suffix='.cmd') as file:
         file.write(''.join(f'{command}\n' for command in commands))
         file.flush()
-        done = subprocess.run([program, file.name], capture_output=True, text=True, timeout=120, check=False)
+        done = subprocess.run([SESSIONS, file.name], capture_output=True, text=True, timeout=120, check=False)
     answers = answers_in(done.stdout)
     if done.returncode or answers.pop() != ['ok'] or len(answers) != len(commands):
         at = min(len(answers), len(commands) - 1)
@@ -91,9 +97,9 @@ class Play(CasePlay):
     def name(self) -> str:
         return name_of(self.case)
 
-    def run(self, program: Path = SESSIONS) -> None:
+    def run(self) -> None:
         """Sends all commands and checks the answers."""
-        for check, answer in zip(self.checks, answers_to(self.sent, program)):
+        for check, answer in zip(self.checks, answers_to(self.sent)):
             check(answer)
 
     def begin(self, session: Setup, wanted: list[str]) -> None:
@@ -217,8 +223,8 @@ class Play(CasePlay):
             self.send(f'replay {longest} {digits(text)}', check)
 
     def with_spacings(self, wanted: Outcome) -> None:
-        """Runs the session twice with each spacing up to 12."""
-        for spacing in range(1, 13):
+        """Runs the session twice with each spacing."""
+        for spacing in SPACINGS:
             self.begin(replace(self.case.session, spacing=spacing, slots=64), ['ok'])
             self.expect_run(wanted, wanted.steps, None)
             self.expect_run(wanted, 0, None)
@@ -257,9 +263,9 @@ class CallPlay(Play):
 
     def __init__(self, case: Case) -> None:
         super().__init__(case)
-        self.code = SAVED
+        self.code = START
         self.steps = 3
-        self.registers = {'A': 0x11, 'F': 0x93, 'B': 0x11, 'C': 0x93, 'D': 0, 'E': 0, 'H': 0, 'L': 0, 'SP': 0xFDFE, 'PC': 0}
+        self.registers = dict(AT_START)
         self.text = b''
         if case.start != 0x100:
             self.steps += 1
@@ -273,8 +279,10 @@ class CallPlay(Play):
         self.steps += steps
 
     def call(self, number: int, address: str) -> None:
-        self.instructions(f'MVI A,11H; LXI B,{0x2200 + number}; LXI D,0{address}H; LXI H,3344H; CALL 0FE06H', 6)
-        self.registers.update(A=0x11, B=0x22, C=number, D=int(address[:2], 16), E=int(address[2:], 16), H=0x33, L=0x44)
+        found = {**AT_CALL, 'C': number, 'D': int(address[:2], 16), 'E': int(address[2:], 16)}
+        words = [f'LXI {high},{found[high] * 256 + found[low]}' for high, low in ('BC', 'DE', 'HL')]
+        self.instructions('; '.join([f'MVI A,{found["A"]}', *words, 'CALL 0FE06H']), 6)
+        self.registers.update(found)
 
     def act(self, verb: str, rest: str) -> None:
         words = rest.split()
@@ -390,7 +398,7 @@ def plays_of(case: Case) -> Iterator[Play]:
     yield play
 
 
-def play_case(case: Case, program: Path = SESSIONS) -> None:
+def play_case(case: Case) -> None:
     """Plays a case. Raises `Difference` with what differs."""
     for play in plays_of(case):
-        play.run(program)
+        play.run()

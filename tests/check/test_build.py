@@ -26,7 +26,7 @@ cpmdeps: list
 test_top: top
 '''
 ALL = ['executable', 'far', 'ground', 'left', 'right', 'top']
-SECONDS = '# a comment\nground 100\nleft 200\nright 250\ntop 500\nexecutable 1000\n'
+SECONDS = '# a comment\nground 100\nleft 200\nright 250\ntop 500\nexecutable 1000\nlist 1100\ncpmdeps 1300\n'
 FIRST = 'cpmrun: first run: proving the program and building it (README.md, "The first build")'
 CLEAR = '\r\x1b[K'
 # As rt does, it locks the folders of its crate and of the crates below, and proves only what was not proved of the same text.
@@ -105,12 +105,12 @@ class Build(unittest.TestCase):
         with open(reads, 'rb', buffering=0) as terminal:
             return terminal.read(4096).decode().removeprefix(CLEAR)
 
-    def end(self, build, status, crate='executable'):
+    def end(self, build, status, name='cpmrun'):
         """Waits for a build, which leaves no process and no room, and returns what it printed and the crates that it proved."""
         printed = build.communicate()[0]
         self.errors = (self.work / 'err').read_text()
         self.assertEqual(build.returncode, status, self.errors)
-        self.assertFalse((self.crates / 'executable/out/rooms').exists())
+        self.assertFalse((self.tree / 'out/rooms').exists())
         for process in (self.notes / 'processes').read_text().split():
             with self.subTest(process), self.assertRaises(ProcessLookupError, msg='a process is left'):
                 if Path('/proc', process, 'stat').exists() and ') Z ' in Path('/proc', process, 'stat').read_text():
@@ -118,7 +118,7 @@ class Build(unittest.TestCase):
                 os.kill(int(process), 0)
         self.log = (self.notes / 'log').read_text().splitlines()
         if status == 0:
-            self.assertEqual(printed, f'{self.crates}/{crate}/out/{crate}\n')
+            self.assertEqual(printed, f'{self.tree}/out/{name}\n')
         return sorted(line[5:] for line in self.log if line.startswith('ends '))
 
     def change(self, crate):
@@ -169,42 +169,49 @@ class Build(unittest.TestCase):
     def test_the_key_for_an_interrupt_leaves_nothing(self):
         for count in 0, 1, 4:
             shown = self.build_on_terminal(-signal.SIGINT, f'cpmrun: {count} of 6 crates')
-            messages = [line for text in shown for line in text.splitlines() if not line.startswith((FIRST, 'make: *** ['))]
+            messages = [line for text in shown for line in text.splitlines() if not line.startswith((FIRST, 'make: *** '))]
             self.assertEqual((shown[-1], [line for line in messages if not re.match(r'cpmrun: \d of 6 crates proved', line)]), ('', []))
         self.assertEqual(self.end(self.start(), 0)[0], 'executable')
 
     def test_the_minutes_that_are_left(self):
-        rooms = self.crates / 'executable/out/rooms'
+        rooms = self.tree / 'out/rooms'
         rooms.mkdir(parents=True)
         now = time.time()
-        for before, proved, shown in (
-                ('', {}, ''), ('', {'far': 100}, ''),
-                ('', {'ground': 150}, ', about 20 minutes left'),
-                ('', {'ground': 150, 'far': 200, 'right': 250}, ', about 12 minutes left'),
-                ('', {'ground': 31}, ', about 1 minute left'), ('', {'ground': 10}, ', about 1 minute left'),
-                ('ground', {'ground': 10, 'far': 20}, ''),
-                ('ground', {'ground': 10, 'left': 200}, ', about 25 minutes left'),
-                ('executable', {'ground': 150}, ''), ('', {'top': 150, 'executable': 200}, '')):
-            with self.subTest(before=before, proved=proved):
-                (rooms / 'before').write_text(f'{before or "*"}/out/rlib\n')
+        for main, before, proved, shown in (
+                ('executable', '*', {}, ''), ('executable', '*', {'far': 100}, ''),
+                ('executable', '*', {'ground': 150}, ', about 20 minutes left'),
+                ('executable', '*', {'ground': 150, 'far': 200, 'right': 250}, ', about 12 minutes left'),
+                ('executable', '*', {'ground': 31}, ', about 1 minute left'), ('executable', '*', {'ground': 10}, ', about 1 minute left'),
+                ('executable', 'ground', {'ground': 10, 'far': 20}, ''),
+                ('executable', 'ground', {'ground': 10, 'left': 200}, ', about 25 minutes left'),
+                ('executable', 'ground right', {'left': 200, 'right': 210}, ', about 23 minutes left'),
+                ('executable', 'ground left right top executable', {'ground': 150}, ''), ('executable', '*', {'top': 150, 'executable': 200}, ''),
+                ('cpmdeps', '*', {'ground': 150}, ', about 6 minutes left'),
+                ('cpmdeps', 'ground left right top executable', {'ground': 10, 'right': 20}, ''),
+                ('cpmdeps', 'ground left right top executable', {'ground': 10, 'right': 20, 'list': 255}, ', about 8 minutes left')):
+            with self.subTest(main=main, before=before, proved=proved):
+                (rooms / 'before').write_text(''.join(f'{name}/out/rlib\n' for name in before.split()))
                 os.utime(rooms / 'before', (now - 300, now - 300))
                 for crate, seconds in proved.items():
                     (rooms / f'{crate}.proved').touch()
                     os.utime(rooms / f'{crate}.proved', (now - 300 + seconds, now - 300 + seconds))
-                self.assertEqual(self.show(), f'cpmrun: {len(proved)} of 6 crates proved{shown}')
+                self.assertEqual(self.show(main), f'cpmrun: {len(proved)} of {6 if main == "executable" else 4} crates proved{shown}')
                 for crate in proved:
                     (rooms / f'{crate}.proved').unlink()
         (rooms / 'ground.proved').touch()
-        self.assertEqual(self.show('cpmdeps'), 'cpmrun: 1 of 4 crates proved')
         (rooms / 'before').unlink()
         self.assertEqual(self.show(), 'cpmrun: 1 of 6 crates proved')
 
     def test_the_times_of_crates_are_in_order(self):
+        """Each crate is before the first program that needs it."""
         lines = [line.split() for line in (TOP / 'scripts/seconds').read_text().splitlines() if not line.startswith('#')]
-        needed = subprocess.check_output(['make', '-s', 'needs', 'CRATE=executable'], cwd=TOP, text=True).split()
-        self.assertEqual([crate for crate, _ in lines if crate not in needed], [])
         self.assertEqual(lines, sorted(lines, key=lambda line: int(line[1])))
-        self.assertEqual(lines[-1][0], 'executable')
+        left = [crate for crate, _ in lines]
+        for main in 'executable', 'cpmdeps', 'cpmtrace':
+            needed = subprocess.check_output(['make', '-s', 'needs', f'CRATE={main}'], cwd=TOP, text=True).split()
+            before, left = left[:left.index(main) + 1], left[left.index(main) + 1:]
+            self.assertEqual([crate for crate in before if crate not in needed], [])
+        self.assertEqual(left, [])
 
     def test_a_failure_is_reported_and_the_next_build_resumes(self):
         for crate, proved, left, was_built in ('left', ['far', 'ground', 'right'], ['executable', 'left', 'top'], False), \
@@ -213,7 +220,7 @@ class Build(unittest.TestCase):
             (self.notes / f'fails-{crate}').touch()
             self.assertEqual(self.end(self.start(), 1), proved)
             self.assertIn(f'no proof of {crate}\n', self.errors)
-            self.assertEqual((self.crates / 'executable/out/executable').exists(), was_built and crate != 'executable')
+            self.assertEqual((self.tree / 'out/cpmrun').exists(), was_built and crate != 'executable')
             (self.notes / f'fails-{crate}').unlink()
             self.assertEqual(self.end(self.start(), 0), left)
 

@@ -9,21 +9,23 @@ import time
 from pathlib import Path
 
 from helpers import DRIVES, HI, OUT_OF_MEMORY, PROGRAM, RENAME, ProgramTest, build_library, calls, file_of_drive
+from vembrusk.assembler import assemble
 
 WARM_BOOT = 'stop WarmBoot\n'
 READ_OPTIONS = ['--files', '--files-b', '--files-c', '--files-d', '--disk', '--disk-d', '--console', '--edits']
 
-RETURN = bytes.fromhex('c9')
-"""RET"""
+RETURN = assemble(['RET'])
+"""Returns at once."""
 
-LIST = bytes.fromhex('0e11115c00cd0500feffca0000218100060b5e0e02e5c5cd0500c1e12305c212011e0a0e02cd05000e12c30501')
-"""Prints a line with the name and the type of each file that the tail names: MVI C,17; LXI D,5CH; CALL 5, with CPI 0FFH and JZ 0 after
-it; LXI H,81H; MVI B,11; eleven times MOV E,M; MVI C,2; PUSH H; PUSH B; CALL 5; POP B; POP H; INX H; DCR B; JNZ; and then MVI E,0AH;
-MVI C,2; CALL 5; MVI C,18; JMP to the first CALL."""
+LIST = assemble([
+    'MVI C,17; LXI D,5CH', 'next: CALL 5; CPI 0FFH; JZ 0; LXI H,81H; MVI B,11',
+    'letter: MOV E,M; MVI C,2; PUSH H; PUSH B; CALL 5; POP B; POP H; INX H; DCR B; JNZ letter', 'MVI E,0AH; MVI C,2; CALL 5; MVI C,18; JMP next'])
+"""Prints a line with the name and the type of each file that the tail names."""
 
-THREE = bytes.fromhex('0e16115c00cd05003a5d00e60207070707327d000e22cd0500215d00347efe44c200011e2e0e02cd0500c9')
-"""Makes A, B and C, writes record 0 of A and record 32 of the others, and prints a point: MVI C,22; LXI D,5CH; CALL 5; LDA 5DH; ANI 2;
-four times RLC; STA 7DH; MVI C,34; CALL 5; LXI H,5DH; INR M; MOV A,M; CPI 'D'; JNZ to the beginning; MVI E,'.'; MVI C,2; CALL 5; RET."""
+THREE = assemble([
+    'again: MVI C,22; LXI D,5CH; CALL 5; LDA 5DH; ANI 2; RLC; RLC; RLC; RLC; STA 7DH; MVI C,34; CALL 5',
+    "LXI H,5DH; INR M; MOV A,M; CPI 'D'; JNZ again; MVI E,'.'; MVI C,2; CALL 5; RET"])
+"""Makes A, B and C, writes record 0 of A and record 32 of the others, and prints a point."""
 
 A_OF_THREE = bytes.fromhex('022041') + bytes(125)
 """The file A that THREE makes: one record, the command tail with its length."""
@@ -32,15 +34,15 @@ B_OF_THREE = bytes(4096) + A_OF_THREE
 """The files B and C that THREE makes: 32 records of zeros before that one."""
 
 STOPS = [
-    (0, 'WarmBoot', 'c9'),                  # RET
-    (3, 'Limit', 'c30001'),                 # JMP 100H
-    (4, 'Halt', '76'),                      # HLT
-    (5, 'Undefined 08', '08'),              # no opcode
-    (6, 'SystemArea FE00', 'c300fe'),       # JMP 0FE00H
-    (7, 'ConsoleExhausted', '0e01cd0500'),  # MVI C,1; CALL 5
-    (8, 'NoDollar', '0e09cd0500'),          # MVI C,9; CALL 5
-    (9, 'Unsupported 3', '0e03cd0500'),     # MVI C,3; CALL 5
-    (10, 'BadDrive 4', '0e0e1e04cd0500'),   # MVI C,14; MVI E,4; CALL 5
+    (0, 'WarmBoot', 'RET'),
+    (3, 'Limit', 'JMP 100H'),
+    (4, 'Halt', 'HLT'),
+    (5, 'Undefined 08', 'DB 8'),
+    (6, 'SystemArea FE00', 'JMP 0FE00H'),
+    (7, 'ConsoleExhausted', 'MVI C,1; CALL 5'),
+    (8, 'NoDollar', 'MVI C,9; CALL 5'),
+    (9, 'Unsupported 3', 'MVI C,3; CALL 5'),
+    (10, 'BadDrive 4', 'MVI C,14; MVI E,4; CALL 5'),
 ]
 
 OUT_OF_RANGE = [
@@ -114,7 +116,7 @@ class MessageTest(CommandTest):
     def test_each_stop_has_its_status(self) -> None:
         for status, cause, program in STOPS:
             with self.subTest(cause):
-                self.expect(status, '', f'stop {cause}\n', self.put('stops.com', bytes.fromhex(program)))
+                self.expect(status, '', f'stop {cause}\n', self.put('stops.com', assemble([program])))
         self.expect(0, 'Hi', WARM_BOOT, HI)
         self.expect(3, 'Hi', 'stop Limit\n', HI, '--limit', '5')
 
@@ -282,8 +284,8 @@ class HostFileTest(CommandTest):
         self.expect(0, 'Hi', WARM_BOOT, HI, '--files', folder)
 
     def test_a_file_of_8388608_bytes_is_a_host_file(self) -> None:
-        """MVI C,35; LXI D,5CH; CALL 5; LHLD 7DH; LDA 7FH; HLT: the count of the records of a file in A, H and L."""
-        size = self.put('size.com', bytes.fromhex('0e23115c00cd05002a7d003a7f0076'))
+        """The program leaves the count of the records of a file in A, H and L."""
+        size = self.put('size.com', assemble(['MVI C,35; LXI D,5CH; CALL 5; LHLD 7DH; LDA 7FH; HLT']))
         edits = self.put('edits', 'run\n')
         folder = self.make_folder('big')
         make_file(folder / 'big.dat', 8388608)
@@ -537,8 +539,8 @@ class InputTest(CommandTest):
         return ends
 
     def test_standard_input_is_not_read(self) -> None:
-        """MVI C,1; CALL 5; RET. All bytes of the pipe are there afterwards."""
-        typed = self.put('typed.com', bytes.fromhex('0e01cd0500c9'))
+        """All bytes of the pipe are there afterwards."""
+        typed = self.put('typed.com', assemble(['MVI C,1; CALL 5; RET']))
         script = self.put('typed', 'a')
         edits = self.put('edits', 'limit 5\n')
         read_end, write_end = self.make_pipe(b'aa\nkept\n')
@@ -552,16 +554,15 @@ class InputTest(CommandTest):
             self.assertEqual(pipe.read(), b'aa\nkept\n')
 
     def test_standard_input_is_read_by_its_path(self) -> None:
-        """MVI C,1; CALL 5; RET."""
-        typed = self.put('typed.com', bytes.fromhex('0e01cd0500c9'))
+        typed = self.put('typed.com', assemble(['MVI C,1; CALL 5; RET']))
         read_end, write_end = self.make_pipe(b'kept')
         os.close(write_end)
         with open(read_end, 'rb') as pipe:
             self.expect(0, 'k', WARM_BOOT, typed, '--console', '/dev/stdin', stdin=pipe)
 
     def test_a_start_is_short(self) -> None:
-        """HLT. The least time of ten starts is usually a fifth of these bounds."""
-        halt = self.put('halt.com', bytes.fromhex('76'))
+        """The least time of ten starts is usually a fifth of these bounds."""
+        halt = self.put('halt.com', assemble(['HLT']))
         folder = self.work / 'starts'
         make_files(folder, 512, 0)
         for path in folder.iterdir():

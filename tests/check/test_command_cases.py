@@ -3,7 +3,7 @@ its own; its status, its two outputs and the files that it leaves."""
 import shlex
 from pathlib import Path
 
-from cases import FOLDER, common_programs
+from case_files import FOLDER, common_programs
 from helpers import PROGRAM, TRACE_PROGRAM, ProgramTest
 from vembrusk.assembler import assemble
 from vembrusk.cases import parse_bytes, programs_in, rows_of, sections_of

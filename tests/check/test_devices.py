@@ -51,7 +51,7 @@ class Devices(FailureTest):
     def test_no_line_is_executed_after_a_failed_reply(self) -> None:
         """The program spins. A run of 4,000,000,000 steps takes much longer than the time that is given."""
         self.environment = {'FAIL_CALLS': 'w'}
-        spin, edits = self.put('spin.com', b'\xc3\x00\x01'), self.put('edits', 'limit 4000000000\nrun\n')
+        spin, edits = self.put('spin.com', assemble(['JMP 100H'])), self.put('edits', 'limit 4000000000\nrun\n')
         done = self.run_with_failure(1, PROGRAM, spin, '--edits', edits, timeout=8)
         self.assertEqual((done.returncode, done.stdout, done.stderr), (1, b'', b'cpmrun: cannot write standard output\n'))
 

@@ -3,7 +3,7 @@ across the end of memory. There is no host file, no tail and no script. Each run
 there. Expected values are worked out by hand. The environment variable SESSIONS names the program."""
 import unittest
 
-from cases import FOLDER
+from case_files import FOLDER
 from playing import Play
 from vembrusk.assembler import assemble
 from vembrusk.cases import Case, Command, Outcome, Setup, usual_registers

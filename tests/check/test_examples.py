@@ -9,6 +9,7 @@ from pathlib import Path
 from unittest import mock
 
 from helpers import DEPENDENCIES_PROGRAM, PROGRAM, TOP, ProgramTest
+from vembrusk.assembler import assemble
 
 EXAMPLES = TOP / 'examples'
 NAMES = sorted(path.stem for path in EXAMPLES.glob('*/*.asm') if path.stem == path.parent.name)
@@ -112,8 +113,8 @@ class RebuildTest(ProgramTest):
 class FixtureTest(ProgramTest):
     """The script that copies only the files that a run asks for."""
 
-    OPEN_TWO = bytes.fromhex('0E0F 116C00 CD0500 0E0F 115C00 CD0500 C9')
-    """Opens both names of its tail: MVI C,15; LXI D,6CH; CALL 5; MVI C,15; LXI D,5CH; CALL 5; RET."""
+    OPEN_TWO = assemble(['MVI C,15; LXI D,6CH; CALL 5; MVI C,15; LXI D,5CH; CALL 5; RET'])
+    """Opens both names of its tail."""
 
     def least(self, *words: object, folder: str = 'disk', new: str = 'new') -> subprocess.CompletedProcess:
         (self.work / 'disk').mkdir(exist_ok=True)
@@ -148,7 +149,7 @@ class FixtureTest(ProgramTest):
         self.expect_names(self.work / 'new')
 
     def test_a_directory_is_an_error(self) -> None:
-        done = self.least(self.put('search.com', bytes.fromhex('0E11 115C00 CD0500 C9')), '*.txt')
+        done = self.least(self.put('search.com', assemble(['MVI C,17; LXI D,5CH; CALL 5; RET'])), '*.txt')
         self.assertEqual((done.returncode, done.stdout), (1, b''))
         self.assertEqual(done.stderr.decode(), 'least: the run asked for the directory of drive A, so it depends on each name there\n')
         self.expect_names(self.work, 'disk', 'search.com')

@@ -1,6 +1,7 @@
 """Which path a message names when a call of the system fails, and what comes first when two things are wrong."""
 from failures import FailureTest
 from helpers import DEPENDENCIES_PROGRAM, HI, ProgramTest
+from vembrusk.assembler import assemble
 
 
 class CallsTest(FailureTest):
@@ -86,9 +87,8 @@ class OrderTest(ProgramTest):
 class EdgesTest(ProgramTest):
 
     def test_a_deletion_of_513_files(self) -> None:
-        """A folder has 512 files, and the program makes one more and deletes them all: MVI C,22; LXI D,5CH; CALL 5; MVI C,19;
-        LXI D,111H; CALL 5; RET; and a control block with `*.*`. The file that it made is not reported as gone."""
-        program = self.put('delete.com', bytes.fromhex('0e16 115c00 cd0500 0e13 111101 cd0500 c9 00') + b'?' * 11 + bytes(24))
+        """A folder has 512 files, and the program makes one more and deletes them all. The file that it made is not reported as gone."""
+        program = self.put('delete.com', assemble(['MVI C,22; LXI D,5CH; CALL 5; MVI C,19; LXI D,all; CALL 5; RET', 'all: DB 0,"???????????"; DS 24']))
         (self.work / 'full').mkdir()
         names = [f'F{number:03}' for number in range(512)]
         for name in names:
@@ -97,7 +97,6 @@ class EdgesTest(ProgramTest):
         self.expect(0, '', f'stop WarmBoot\n{gone}', program, 'new', '--files', self.work / 'full')
 
     def test_stax_to_a_cell_that_is_ready_near_the_top_of_memory(self) -> None:
-        """Stores two bytes at FDEFH, one after the other, and prints the cell: LXI D,FDEFH; MVI A,41H; STAX D; INR A; STAX D; LDAX D;
-        MOV E,A; MVI C,2; CALL 5; RET."""
-        program = self.put('stax.com', bytes.fromhex('11effd 3e41 12 3c 12 1a 5f 0e02 cd0500 c9'))
+        """Stores two bytes at FDEFH, one after the other, and prints the cell."""
+        program = self.put('stax.com', assemble(['LXI D,0FDEFH; MVI A,41H; STAX D; INR A; STAX D; LDAX D; MOV E,A; MVI C,2; CALL 5; RET']))
         self.expect(0, 'B', 'stop WarmBoot\n', program)

@@ -5,6 +5,7 @@ import select
 import subprocess
 
 from helpers import HI, PROGRAM, TOP, ProgramTest, report_of_hi
+from vembrusk.assembler import assemble
 
 CANNOT_WRITE = 'cpmrun: cannot write standard output\n'
 RUN = HI.parent / 'run.txt'
@@ -52,9 +53,9 @@ class OutputTest(ProgramTest):
     """Outputs that close."""
 
     def setUp(self) -> None:
-        """Makes a program that prints 249,999 bytes in 1,000,000 steps: MVI E,'x'; MVI C,2; CALL 5; JMP to the CALL."""
+        """Makes a program that prints 249,999 bytes in 1,000,000 steps."""
         super().setUp()
-        self.text = self.put('text.com', bytes.fromhex('1e780e02cd0500c30401'))
+        self.text = self.put('text.com', assemble(["MVI E,'x'; MVI C,2", 'again: CALL 5; JMP again']))
 
     def test_an_output_that_is_closed_is_an_error_and_no_signal(self) -> None:
         for words in [[HI], [HI, '--edits', RUN], ['--help'], ['--version']]:
@@ -85,8 +86,7 @@ class OutputTest(ProgramTest):
             return process.returncode, first, process.stderr.read()
 
     def test_a_run_that_prints_nothing_needs_no_output(self) -> None:
-        """RET"""
-        program = self.put('return.com', bytes.fromhex('c9'))
+        program = self.put('return.com', assemble(['RET']))
         self.expect(0, '', 'stop WarmBoot\n', program, preexec_fn=lambda: os.close(1))
 
 

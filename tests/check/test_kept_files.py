@@ -175,7 +175,7 @@ class FolderTest(ProgramTest):
                     self.expect_clash(first, second, f'--{second}', other, f'--{first}', folder)
 
     def test_one_folder_may_be_read_twice(self) -> None:
-        program = self.put('return.com', b'\xc9')
+        program = self.put('return.com', assemble(['RET']))
         self.expect(0, '', WARM_BOOT, program, '--files', self.work, '--files-b', self.work)
         self.expect(1, '', 'cpmrun: cannot read none\n', program, '--disk', 'none', '--disk-b', 'none')
 

@@ -1,9 +1,10 @@
 """Runs the built program on large input and at the end of memory: each part that can grow grows to its limit, and the program
 prints the right result and never runs out of memory."""
 from helpers import ProgramTest
+from vembrusk.assembler import assemble
 
-PRINT_SCRIPT = bytes.fromhex('0e01cd0500c30001')
-"""Prints the script: MVI C,1; CALL 5; JMP to the MVI."""
+PRINT_SCRIPT = assemble(['MVI C,1; CALL 5; JMP 100H'])
+"""Prints the script."""
 
 
 def report_of_sum(total: str) -> str:
@@ -24,16 +25,15 @@ class LargeTest(ProgramTest):
         self.expect_long(0, out, '', self.put('large.com', program), '--edits', self.put('edits', edits))
 
     def test_a_text_of_196608_bytes(self) -> None:
-        """LXI SP; MVI B,3; LXI H,0; and then PUSH B; PUSH H; MVI E,'x'; MVI C,2; CALL 5; POP H; POP B; DCX H; MOV A,H; ORA L; JNZ;
-        DCR B; JNZ; HLT."""
-        program = bytes.fromhex('3100f00603210000c5e51e780e02cd0500e1c12b7cb5c2080105c2080176')
+        program = assemble(['LXI SP,0F000H; MVI B,3; LXI H,0', "next: PUSH B; PUSH H; MVI E,'x'; MVI C,2; CALL 5; POP H; POP B",
+                            'DCX H; MOV A,H; ORA L; JNZ next; DCR B; JNZ next; HLT'])
         report = 'stop Halt\nsteps 2555913\nregs A=00 F=56 B=00 C=00 D=00 E=78 H=00 L=00 SP=F000 PC=011D\n'
         self.expect_replies(f'ok\n{report}text ' + '78' * 196608 + '\nend\n', program, 'limit 4000000\nrun\n')
 
     def test_a_program_of_64512_bytes_adds_up_all_of_memory(self) -> None:
         """The sum is in E; the pokes are 32,000 bytes and the last byte of the program. Page zero adds up to 4CH and the program to 31H,
-        modulo 256: MVI E,0; LXI H,0; and then MOV A,E; ADD M; MOV E,A; INX H; MOV A,H; ORA L; JNZ; HLT."""
-        program = bytes.fromhex('1e002100007b865f237cb5c2050176') + bytes(64497)
+        modulo 256."""
+        program = assemble(['MVI E,0; LXI H,0', 'next: MOV A,E; ADD M; MOV E,A; INX H; MOV A,H; ORA L; JNZ next; HLT']).ljust(64512, b'\0')
         edits = 'run\npoke 0200 ' + '01' * 32000 + '\npoke FCFF 03\npoke FD00 00\nrun\n'
         self.expect_replies(report_of_sum('7D') + 'ok\nok\nrefused 6\n' + report_of_sum('80'), program, edits)
 
@@ -51,8 +51,7 @@ class LargeTest(ProgramTest):
         self.expect_long(7, 'a' * 1048576, 'stop ConsoleExhausted\n', *words)
 
     def test_cells_at_the_end_of_memory(self) -> None:
-        """The last cell, and the last one before the area of the system: MVI A,5AH; STA FFFF; STA FDFF; LXI SP,1; PUSH PSW; LDA FFFF;
-        MOV B,A; LDA FDFF; HLT. The flag byte goes to FFFF, and A to 0000."""
-        program = bytes.fromhex('3e5a32ffff32fffd310100f53affff473afffd76')
+        """The last cell, and the last one before the area of the system. The flag byte goes to FFFF, and A to 0000."""
+        program = assemble(['MVI A,5AH; STA 0FFFFH; STA 0FDFFH; LXI SP,1; PUSH PSW; LDA 0FFFFH; MOV B,A; LDA 0FDFFH; HLT'])
         report = 'stop Halt\nsteps 8\nregs A=5A F=02 B=02 C=00 D=00 E=00 H=00 L=00 SP=FFFF PC=0113\ntext -\nend\n'
         self.expect_replies(report, program, 'run\n')

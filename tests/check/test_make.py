@@ -1,12 +1,12 @@
 """Tests the targets of the Makefile that need no build: `make bench`, with stand-ins for the scripts that measure, and `make needs`."""
 import shutil
 
-from helpers import TOP, ProgramTest, read_crates
+from helpers import TOP, WorkTest, read_crates
 
 SCRIPTS = ['benchmark', 'instructions', 'calls', 'edits', 'listings', 'traces']
 
 
-class MakeTest(ProgramTest):
+class MakeTest(WorkTest):
 
     def bench(self, *failing: str) -> tuple[int, list[str]]:
         """Returns the status of `make bench` if these scripts fail, and the lines of all."""

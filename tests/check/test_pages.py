@@ -16,7 +16,7 @@ LENGTHS = {'README.md': 150, 'docs/PROVED.md': 300}
 """The most lines of the pages that are read first."""
 
 PARTS = ['cpmrun', 'cpmdeps', 'cpmtrace', 'cpmtools', 'crates.txt', 'scripts', 'examples', 'python', 'tests', 'docs']
-"""What the commands may name. Of the crates they may name only the built programs."""
+"""What the commands may name, beside the built programs."""
 
 
 def blocks_of(page: str, fence: str = 'sh') -> list[re.Match[str]]:
@@ -31,9 +31,10 @@ def copy_tree(copy: Path) -> None:
             shutil.copytree(TOP / part, copy / part, ignore=shutil.ignore_patterns('__pycache__', 'built'))
         else:
             shutil.copy2(TOP / part, copy / part)
-    for program, crate in (PROGRAM, 'executable'), (DEPENDENCIES_PROGRAM, 'cpmdeps'), (TRACE_PROGRAM, 'cpmtrace'):
-        (copy / 'crates' / crate / 'out').mkdir(parents=True)
-        shutil.copy2(program, copy / 'crates' / crate / 'out' / crate)
+    (copy / 'crates').mkdir()
+    (copy / 'out').mkdir()
+    for program, name in (PROGRAM, 'cpmrun'), (DEPENDENCIES_PROGRAM, 'cpmdeps'), (TRACE_PROGRAM, 'cpmtrace'):
+        shutil.copy2(program, copy / 'out' / name)
 
 
 def wrong_blocks(page: Path, copy: Path, env: dict[str, str] | None = None, fence: str = 'sh') -> list[str]:

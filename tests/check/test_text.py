@@ -12,6 +12,7 @@ from helpers import PROGRAM, ProgramTest, build_library
 from vembrusk.assembler import assemble
 
 WARM_BOOT = b'stop WarmBoot\n'
+SPIN = assemble(['JMP 100H'])
 PRINT = 'MVI E,{0}; MVI C,2; CALL 5'
 WAIT = ['MVI D,{0}', '{1}: LXI B,0', '{1}_inner: DCX B; MOV A,B; ORA C; JNZ {1}_inner', 'DCR D; JNZ {1}']
 """Takes 262,147 steps for each of at most 255 turns, and one more."""
@@ -105,15 +106,15 @@ class TerminalTest(TextTest):
 
     def test_the_steps_are_wiped_before_the_stop(self) -> None:
         shown = b''.join(show(millions) + WIPE for millions in (1, 3, 5))
-        self.assertEqual(self.on_terminal(b'\xc3\x00\x01', 6_000_000), shown + b'stop Limit\n')
+        self.assertEqual(self.on_terminal(SPIN, 6_000_000), shown + b'stop Limit\n')
 
     def test_another_kind_of_terminal_shows_nothing(self) -> None:
-        self.assertEqual(self.on_terminal(b'\xc3\x00\x01', 6_000_000, TERM='dumb'), b'stop Limit\n')
+        self.assertEqual(self.on_terminal(SPIN, 6_000_000, TERM='dumb'), b'stop Limit\n')
         del self.environment['TERM']
-        self.assertEqual(self.on_terminal(b'\xc3\x00\x01', 6_000_000), b'stop Limit\n')
+        self.assertEqual(self.on_terminal(SPIN, 6_000_000), b'stop Limit\n')
 
     def test_a_pipe_shows_nothing(self) -> None:
-        self.expect(3, '', 'stop Limit\n', *self.words(b'\xc3\x00\x01', 6_000_000)[1:], env=self.environment)
+        self.expect(3, '', 'stop Limit\n', *self.words(SPIN, 6_000_000)[1:], env=self.environment)
 
 
 class RefusedTest(FailureTest):

@@ -2,6 +2,7 @@
 its trace and names the fault. Its traces themselves are worked out by hand in tests/cases/trace."""
 from failures import FailureTest, Wanted
 from helpers import HI, TOP, TRACE_PROGRAM
+from vembrusk.assembler import assemble
 
 GREETING = TOP / 'examples/greeting/greeting.com'
 SORT = TOP / 'examples/sort'
@@ -66,7 +67,7 @@ class DeviceTest(TraceFailures):
     def test_a_trace_ends_soon_after_a_failure(self) -> None:
         """The program spins. A trace of 4,000,000,000 steps takes minutes."""
         self.environment = {'FAIL_CALLS': 'w'}
-        spin = self.put('spin.com', b'\xc3\x00\x01')
+        spin = self.put('spin.com', assemble(['JMP 100H']))
         done = self.run_with_failure(2, TRACE_PROGRAM, spin, '--steps', '--limit', '4000000000', timeout=8)
         self.assertEqual((done.returncode, done.stderr), (1, b'cpmtrace: cannot write standard output\n'))
         self.assertTrue(done.stdout and len(done.stdout) <= 4_096, len(done.stdout))

@@ -4,7 +4,7 @@ environment variable SESSIONS names it."""
 from dataclasses import replace
 from pathlib import Path
 
-from cases import FOLDER, command_of, name_of, read_cases
+from case_files import FOLDER, command_of, name_of, read_cases
 from failures import FailureTest
 from helpers import TOP
 from playing import SESSIONS, Play, answers_in, answers_to, kept_in, report_in

@@ -6,14 +6,14 @@ from concurrent.futures import ThreadPoolExecutor
 from pathlib import Path
 
 from helpers import DEPENDENCIES_PROGRAM
-from test_dependencies import OPEN_TWO, SEARCH, DependenciesTest
+from test_listing import OPEN_TWO, SEARCH, DependenciesTest
+from vembrusk.assembler import assemble
 
-READ_AND_SEARCH = bytes.fromhex('0E01 CD0500 0E11 115C00 CD0500 C9')
-"""Reads a byte of the script, and then searches the name of its tail: MVI C,1; CALL 5; MVI C,17; LXI D,5CH; CALL 5; RET."""
+READ_AND_SEARCH = assemble(['MVI C,1; CALL 5; MVI C,17; LXI D,5CH; CALL 5; RET'])
+"""Reads a byte of the script, and then searches the name of its tail."""
 
-LENGTH_OF_FIRST = bytes.fromhex('0E11 115C00 CD0500 3A8F00 C630 5F 0E02 CD0500 C9')
-"""Searches the name of its tail and prints byte 15 of the entry, the number of records, as a digit: MVI C,17; LXI D,5CH; CALL 5; LDA 8FH;
-ADI 30H; MOV E,A; MVI C,2; CALL 5; RET."""
+LENGTH_OF_FIRST = assemble(['MVI C,17; LXI D,5CH; CALL 5; LDA 8FH; ADI 30H; MOV E,A; MVI C,2; CALL 5; RET'])
+"""Searches the name of its tail and prints byte 15 of the entry, the number of records, as a digit."""
 
 CANNOT_HAVE = 'cpmdeps: a rule for make cannot have the path '
 EVERYWHERE = b'\t\n\v\f\r%*:;=?[|'
@@ -102,7 +102,7 @@ disk/note.txt:
         self.assertEqual(self.rule('open.com', '--limit', '0', '--make', 'made', stop='Limit'), 'made:\n# stop Limit\n')
 
     def test_a_script_and_its_end(self) -> None:
-        self.put('typed.com', bytes.fromhex('0E01 CD0500 C9'))
+        self.put('typed.com', assemble(['MVI C,1; CALL 5; RET']))
         self.put('typed', 'x')
         self.expect_rule('made: typed.com typed\ntyped:\n', 'made', ['typed.com', 'typed'], [], 'typed.com', '--console', 'typed')
         self.put('empty', '')
@@ -113,9 +113,9 @@ disk/note.txt:
         self.assertEqual(self.rule('typed.com', '--typed', 'x', '--make', 'made'), 'made: typed.com\n', 'the script is no file')
 
     def test_stops(self) -> None:
-        for code, stop in ('76', 'Halt'), ('08', 'Undefined 08'), ('C300FE', 'SystemArea FE00'), ('0EFF CD0500', 'Unsupported 255'):
+        for code, stop in ('HLT', 'Halt'), ('DB 8', 'Undefined 08'), ('JMP 0FE00H', 'SystemArea FE00'), ('MVI C,255; CALL 5', 'Unsupported 255'):
             with self.subTest(stop):
-                self.put('stops.com', bytes.fromhex(code))
+                self.put('stops.com', assemble([code]))
                 self.assertEqual(self.rule('stops.com', '--make', 'made', stop=stop), f'made: stops.com\n# stop {stop}\n')
 
     def test_a_directory_has_names_and_lengths(self) -> None:
@@ -207,7 +207,7 @@ class PathTest(RulesTest):
 
     def test_other_paths_are_escaped_too(self) -> None:
         for name in 'it #1.com', 'typed $1':
-            self.put(name, bytes.fromhex('0E01 CD0500 C9'))
+            self.put(name, assemble(['MVI C,1; CALL 5; RET']))
         self.expect_rule('made: it\\ \\#1.com typed\\ $$1\ntyped\\ $$1:\n', 'made', ['it #1.com', 'typed $1'], [],
                          'it #1.com', '--console', 'typed $1')
         self.put('search.com', SEARCH)

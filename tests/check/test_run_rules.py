@@ -5,18 +5,19 @@ from pathlib import Path
 
 from failures import FailureTest, Wanted
 from helpers import DEPENDENCIES_PROGRAM, HI, PROGRAM
-from test_dependencies import DependenciesTest
+from test_listing import DependenciesTest
+from vembrusk.assembler import assemble
 
 WARM = b'stop WarmBoot\n'
 
-MAKE_TWO = bytes.fromhex('0E16 116C00 CD0500 0E16 115C00 CD0500 C9')
-"""Makes the file of the second word of its tail, and then that of the first: MVI C,22; LXI D,6CH; CALL 5; MVI C,22; LXI D,5CH; CALL 5; RET."""
+MAKE_TWO = assemble(['MVI C,22; LXI D,6CH; CALL 5; MVI C,22; LXI D,5CH; CALL 5; RET'])
+"""Makes the file of the second word of its tail, and then that of the first."""
 
-MAKE_AND_OPEN = bytes.fromhex('0E16 116C00 CD0500 0E0F 115C00 CD0500 C9')
-"""Makes the file of the second word of its tail, and opens that of the first: MVI C,22; LXI D,6CH; CALL 5; MVI C,15; LXI D,5CH; CALL 5; RET."""
+MAKE_AND_OPEN = assemble(['MVI C,22; LXI D,6CH; CALL 5; MVI C,15; LXI D,5CH; CALL 5; RET'])
+"""Makes the file of the second word of its tail, and opens that of the first."""
 
-WRITE_AND_SEARCH = bytes.fromhex('0E13 115C00 CD0500 0E16 115C00 CD0500 0E15 115C00 CD0500 0E11 115C00 CD0500 C9')
-"""Deletes the file of its tail, makes it, writes the record at 80H, which has the tail, and searches it: calls 19, 22, 21 and 17; RET."""
+WRITE_AND_SEARCH = assemble(['MVI C,19; LXI D,5CH; CALL 5; MVI C,22; LXI D,5CH; CALL 5; MVI C,21; LXI D,5CH; CALL 5; MVI C,17; LXI D,5CH; CALL 5; RET'])
+"""Deletes the file of its tail, makes it, writes the record at 80H, which has the tail, and searches it."""
 
 
 class Failures(FailureTest):

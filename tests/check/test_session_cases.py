@@ -4,7 +4,7 @@ case would need. The environment variable SESSIONS names the program, and CASES 
 import os
 import unittest
 
-from cases import FOLDER, name_of, read_cases, session_files
+from case_files import FOLDER, name_of, read_cases, session_files
 from playing import play_case
 from vembrusk.player import Difference
 

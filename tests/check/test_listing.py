@@ -7,6 +7,7 @@ from pathlib import Path
 from failures import FailureTest, Wanted
 from helpers import DEPENDENCIES_PROGRAM, DRIVES, HI, TOP, ProgramTest
 from test_command import STOPS
+from vembrusk.assembler import assemble
 
 GREETING = TOP / 'examples/greeting/greeting.com'
 SORT = TOP / 'examples/sort'
@@ -20,7 +21,7 @@ class Listing:
 
     name: str
     code: str
-    """The bytes of the program."""
+    """The program, in mnemonics."""
     joined: str
     by_step: str
     tail: str = ''
@@ -35,7 +36,7 @@ class Listing:
 LISTINGS = [
     Listing(
         'cells, the ones that an instruction reads too, and a stop that asks as the step after the last one',
-        'C30401 00 2A0002 76',  # JMP 104H; NOP; LHLD 200H; HLT
+        'JMP 104H; NOP; LHLD 200H; HLT',
         '''program 0100-0102 0104-0107 0200-0201 step 0
 stop Halt
 ''',
@@ -47,7 +48,7 @@ stop Halt
 '''),
     Listing(
         'cells that the run wrote itself are not asked for',
-        '3E01 320002 3A0002 3A0102 76',  # MVI A,1; STA 200H; LDA 200H; LDA 201H; HLT
+        'MVI A,1; STA 200H; LDA 200H; LDA 201H; HLT',
         '''program 0100-010B 0201 step 0
 stop Halt
 ''',
@@ -61,7 +62,7 @@ stop Halt
 '''),
     Listing(
         'nothing is asked for after the limit',
-        '3E01 320002 3A0002 3A0102 76',
+        'MVI A,1; STA 200H; LDA 200H; LDA 201H; HLT',
         '''program 0100-0104 step 0
 stop Limit
 ''',
@@ -72,7 +73,7 @@ stop Limit
     Listing('a run of no steps asks for nothing', '76', 'stop Limit\n', 'stop Limit\n', limit=0),
     Listing(
         'the script and its end, for which the stop asks',
-        '0E01 CD0500 0E01 CD0500 C9',  # MVI C,1; CALL 5; MVI C,1; CALL 5; RET
+        'MVI C,1; CALL 5; MVI C,1; CALL 5; RET',
         '''page 0005-0007 step 2
 program 0100-0109 step 0
 script 0 step 3
@@ -90,7 +91,7 @@ stop ConsoleExhausted
 ''', script=b'x'),
     Listing(
         'a file that is there and one that is not',
-        '0E0F 116C00 CD0500 0E0F 115C00 CD0500 C9',  # MVI C,15; LXI D,6CH; CALL 5; MVI C,15; LXI D,5CH; CALL 5; RET
+        'MVI C,15; LXI D,6CH; CALL 5; MVI C,15; LXI D,5CH; CALL 5; RET',
         '''page 0000-0002 0005-0007 005C-008C step 3
 program 0100-0110 FDFE-FDFF step 0
 file NOTE.TXT step 9
@@ -117,7 +118,7 @@ stop WarmBoot
 ''', tail='note.txt gone.txt', hosts=(('a/note.txt', b'1'), ('a/other.txt', b'2'))),
     Listing(
         'files are in the order of drive, name and type',
-        '0E0F 116C00 CD0500 0E0F 115C00 CD0500 C9',
+        'MVI C,15; LXI D,6CH; CALL 5; MVI C,15; LXI D,5CH; CALL 5; RET',
         '''page 0000-0002 0005-0007 005C-008C step 3
 program 0100-0110 FDFE-FDFF step 0
 file ZED step 4
@@ -146,8 +147,7 @@ stop WarmBoot
 ''', tail='b:note.txt zed', hosts=(('a/zed', b''), ('b/NOTE.TXT', bytes(129)))),
     Listing(
         'a renamed file is asked for by its old name, and a read asks for its record',
-        # MVI C,23; LXI D,5CH; CALL 5; MVI A,0; STA 8CH; MVI C,20; LXI D,6CH; CALL 5; RET
-        '0E17 115C00 CD0500 3E00 328C00 0E14 116C00 CD0500 C9',
+        'MVI C,23; LXI D,5CH; CALL 5; MVI A,0; STA 8CH; MVI C,20; LXI D,6CH; CALL 5; RET',
         '''page 0000-0002 0005-0007 005C-008B step 3
 program 0100-0115 FDFE-FDFF step 0
 file NOTE.TXT step 4
@@ -178,8 +178,7 @@ stop WarmBoot
 ''', tail='note.txt new.txt', hosts=(('a/note.txt', b'1'),)),
     Listing(
         'rows of records',
-        # MVI A,5; STA 7DH; MVI C,33; LXI D,5CH; CALL 5; XRA A; STA 7DH; MVI C,33; LXI D,5CH; CALL 5; RET
-        '3E05 327D00 0E21 115C00 CD0500 AF 327D00 0E21 115C00 CD0500 C9',
+        'MVI A,5; STA 7DH; MVI C,33; LXI D,5CH; CALL 5; XRA A; STA 7DH; MVI C,33; LXI D,5CH; CALL 5; RET',
         '''page 0000-0002 0005-0007 005C-007C 007E-007F step 5
 program 0100-0119 FDFE-FDFF step 0
 file X step 6
@@ -211,7 +210,7 @@ stop WarmBoot
 ''', tail='x', hosts=(('a/x', bytes(700)),)),
     Listing(
         'a search asks for a directory, also of a drive without a folder',
-        '0E11 115C00 CD0500 C9',  # MVI C,17; LXI D,5CH; CALL 5; RET
+        'MVI C,17; LXI D,5CH; CALL 5; RET',
         '''page 0000-0002 0005-0007 005C-007C step 3
 program 0100-0108 FDFE-FDFF step 0
 directory C step 4
@@ -230,7 +229,7 @@ stop WarmBoot
 ''', tail='c:*.txt', hosts=(('a/note.txt', b'1'),)),
     Listing(
         'a name that no host file can have',
-        '0E0F 115C00 CD0500 C9',  # MVI C,15; LXI D,5CH; CALL 5; RET
+        'MVI C,15; LXI D,5CH; CALL 5; RET',
         '''page 0000-0002 0005-0007 005C-007C step 3
 program 0100-0108 FDFE-FDFF step 0
 none =033f3f3f3f3f3f3f3f545854 step 4
@@ -249,11 +248,11 @@ stop WarmBoot
 ''', tail='d:*.txt'),
 ]
 
-OPEN_TWO = bytes.fromhex('0E0F 116C00 CD0500 0E0F 115C00 CD0500 C9')
-"""Opens both names of its tail: MVI C,15; LXI D,6CH; CALL 5; MVI C,15; LXI D,5CH; CALL 5; RET."""
+OPEN_TWO = assemble(['MVI C,15; LXI D,6CH; CALL 5; MVI C,15; LXI D,5CH; CALL 5; RET'])
+"""Opens both names of its tail."""
 
-SEARCH = bytes.fromhex('0E11 115C00 CD0500 C9')
-"""Searches the name of its tail: MVI C,17; LXI D,5CH; CALL 5; RET."""
+SEARCH = assemble(['MVI C,17; LXI D,5CH; CALL 5; RET'])
+"""Searches the name of its tail."""
 
 
 class DependenciesTest(ProgramTest):
@@ -279,7 +278,7 @@ class ListingTest(DependenciesTest):
     def words_of(self, listing: Listing, room: Path) -> list[object]:
         """Returns the arguments of a run, whose files are made in a folder."""
         words: list[object] = [room / 'it.com', listing.tail]
-        (room / 'it.com').write_bytes(bytes.fromhex(listing.code))
+        (room / 'it.com').write_bytes(assemble([listing.code]))
         for name, data in listing.hosts:
             (room / name).parent.mkdir(exist_ok=True)
             (room / name).write_bytes(data)
@@ -300,7 +299,7 @@ class ListingTest(DependenciesTest):
     def test_the_stop_is_the_last_line_and_the_status_is_0(self) -> None:
         for _, cause, program in STOPS:
             with self.subTest(cause):
-                done = self.run_command(DEPENDENCIES_PROGRAM, self.put('stops.com', bytes.fromhex(program)))
+                done = self.run_command(DEPENDENCIES_PROGRAM, self.put('stops.com', assemble([program])))
                 self.assertEqual((done.returncode, done.stderr), (0, b''))
                 self.assertEqual(done.stdout.decode().splitlines()[-1], f'stop {cause}')
 
@@ -340,18 +339,17 @@ class LargeTest(DependenciesTest):
         self.assertEqual(next(((one, other) for one, other in zip(lines, wanted) if one != other), None), None)
 
     def test_the_longest_script(self) -> None:
-        """MVI C,1; CALL 5; JMP 100H: five steps for each byte, of which the fourth asks for it."""
+        """There are five steps for each byte, of which the fourth asks for it."""
         length = 1_048_576
-        program, script = self.put('echo.com', bytes.fromhex('0E01 CD0500 C30001')), self.put('script', b'x' * length)
+        program, script = self.put('echo.com', assemble(['MVI C,1; CALL 5; JMP 100H'])), self.put('script', b'x' * length)
         words = [program, '--console', script, '--limit', '9000000']
         rest = [f'script end step {5 * length + 3}', 'stop ConsoleExhausted']
         self.expect_lines([f'script 0-{length - 1} step 3', *rest], *words)
         self.expect_lines([*(f'script {offset} step {5 * offset + 3}' for offset in range(length)), *rest], *words, '--by-step')
 
     def test_the_longest_file(self) -> None:
-        """MVI C,15; LXI D,5CH; CALL 5; and then until the end MVI C,20; LXI D,5CH; CALL 5; ORA A; JZ 108H; RET. Step 4 opens the file,
-        and of the seven steps for each record, from step 5 on, the fifth reads it."""
-        code = bytes.fromhex('0E0F 115C00 CD0500 0E14 115C00 CD0500 B7 CA0801 C9')
+        """Step 4 opens the file, and of the seven steps for each record, from step 5 on, the fifth reads it."""
+        code = assemble(['MVI C,15; LXI D,5CH; CALL 5', 'next: MVI C,20; LXI D,5CH; CALL 5; ORA A; JZ next; RET'])
         folder = self.make_folder('disk', X=bytes(8_388_608))
         words = [self.put('read.com', code), 'x', '--files', folder]
         head = ['file X step 4', 'length X 65536 step 4']
