@@ -1,6 +1,6 @@
 # make                          proves and builds cpmrun, cpmdeps and cpmtrace
 # make check                    proves everything, and runs all tests
-# make check CRATE=replay       proves a crate, tries its must-fail edits, and runs the tests that name it
+# make check CRATE=replay       formats and proves a crate, tries its must-fail edits, and runs the tests that name it
 # make install PREFIX=/usr/local DESTDIR=
 #                               installs the programs, their man pages, their completion for bash, and their pages and examples
 # make uninstall                removes these files

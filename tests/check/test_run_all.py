@@ -233,9 +233,9 @@ test_runner: ground
             self.put(f'tests/check/test_{name}.py', f'{text}\n')
 
     def expect_steps(self, crate: str, files: str, *steps: str) -> None:
-        """Expects these steps, and last that these files of tests are run."""
+        """Expects that the crate is formatted, then these steps, and last that these files of tests are run."""
         last = f'. tests/check/run_all.py {" ".join(f"test_{name}" for name in files.split())}'
-        self.expect_command(0, '\n'.join([*steps, last, '']), '', self.work / 'scripts/crate_steps', crate)
+        self.expect_command(0, '\n'.join([f'crates/{crate} rt fmt', *steps, last, '']), '', self.work / 'scripts/crate_steps', crate)
 
     def test_the_steps_of_each_kind_of_crate(self) -> None:
         run, build = 'crates/test_runner rt run -- data/commands', '. ./cpmrun --build'
