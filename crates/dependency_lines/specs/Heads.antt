@@ -1,13 +1,13 @@
 -- The beginning of a line of a listing, and a line with one step. (This project's profile.)
 use Rattle.std.specs.Prelude.{ℕ, if◌then◌else◌, List, [], ◌++◌, Option, Some, None, codes}
-use Rattle.hex.specs.Hex.{encode_lower}
 use Rattle.filenames.specs.Names.{Key, display_text, is_sayable}
+use Rattle.report_lines.specs.KeyDigits.{key_digits}
 use Rattle.dependency_lines.specs.Words.{step_end}
 use Rattle.dependency_lines.specs.declared.heads.Head.{Head}
 
 -- A name as reports print it, or `=` and the bytes of the key in lower-case hexadecimal digits if no file can have it.
 abbrev pub name_text : Key → List ℕ
-name_text key = if is_sayable key then display_text key else codes "=" ++ encode_lower key
+name_text key = if is_sayable key then display_text key else key_digits key
 
 -- A word, and the name that it is about.
 abbrev pub about_text : List ℕ → Option Key → List ℕ

@@ -7,7 +7,7 @@ ghost use Rattle.dependency_lines.specs.Heads.{head_text, name_text, step_line};
 
 use crate::words::push_step;
 use filenames::{Key, Name};
-use report_lines::{push_hex, push_named};
+use report_lines::{push_key, push_named};
 use streams::Text;
 
 /// The beginning of a line: a word, and the name that it is about, if it is about one.
@@ -48,18 +48,17 @@ pub fn push_head<X: Text>(text: &mut X, head: &Head<'_>)
     };
     match Name::from_key(&key) {
         Some(name) => push_named(text, head.word, &name),
-        None => push_key(text, head.word, &key),
+        None => push_digits(text, head.word, &key),
     }
 }
 
 // Appends a word, and then the bytes of a key that is not the key of a name.
-fn push_key<X: Text>(text: &mut X, word: &[u8], key: &Key)
+fn push_digits<X: Text>(text: &mut X, word: &[u8], key: &Key)
     requires { is_sayable key.now ≡ false }
     ensures { X.pushed text.new ≡ more (X.pushed text.old) (word.now ++ name_text key.now) }
 {
     text.push(word);
-    text.push(b"=");
-    push_hex(text, key)
+    push_key(text, key)
 }
 
 /// Appends a line that ends with the first step, or nothing without a step.

@@ -2,8 +2,10 @@
 
 ghost use Rattle.std.specs.Prelude.{◌≡◌, ◌≤◌, length};
 ghost use Rattle.hex.specs.Hex.{encode_lower};
+ghost use Rattle.report_lines.specs.KeyDigits.{key_digits};
 ghost use Rattle.streams.specs.Pushing.{more};
 
+use filenames::Key;
 use streams::Text;
 
 /// The bytes of a chunk.
@@ -35,4 +37,12 @@ fn push_chunk<X: Text>(text: &mut X, chunk: &[u8])
         unreachable!();
     }
     text.push(digits)
+}
+
+/// Appends `=` and the bytes of a key: two lower-case digits for the drive and for each byte of the name.
+pub fn push_key<X: Text>(text: &mut X, key: &Key)
+    ensures { X.pushed text.new ≡ more (X.pushed text.old) (key_digits key.now) }
+{
+    text.push(b"=");
+    push_hex(text, key)
 }

@@ -4,8 +4,10 @@ use Rattle.std.specs.List.{range_with_len}
 use Rattle.std.proofs.lemmas.List.{take_all, take_more_set}
 use Rattle.std.proofs.lemmas.List.FromFn.{map-range_with_len_more}
 use Rattle.i8080.specs.Registers.{onward}
+use Rattle.filenames.specs.ControlBlock.{name_at}
 use Rattle.machine.specs.PlainState.{PlainState}
-use Rattle.trace_lines.specs.CallLines.{argument_text, block_text, file_text}
+use Rattle.trace_lines.specs.CallLines.{argument_text, block_in, block_text, drive_in, file_text}
+use Rattle.trace_lines.specs.Texts.{name_text}
 use Rattle.trace_lines.specs.declared.forms.Argument.{Argument}
 use Rattle.trace_lines.specs.declared.forms.Argument.TheVariants.{ChosenRecord, File, NextRecord, Renaming}
 
@@ -24,3 +26,7 @@ with_block a w (inl e) = rw e refl
 with_block a w (inr (inl e)) = rw e refl
 with_block a w (inr (inr (inl e))) = rw e refl
 with_block a w (inr (inr (inr e))) = rw e refl
+
+-- A file of a control block that was read.
+pub file_is : (w : PlainState) (at : ℕ) (block name : List ℕ) → block ≡ block_in w → name ≡ name_at block at → name_text (drive_in w ∷ name) ≡ file_text w at
+file_is w at block name same e = ap (λ n. name_text (drive_in w ∷ n)) (e ∙ ap (λ b. name_at b at) same)

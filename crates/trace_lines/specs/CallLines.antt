@@ -1,36 +1,21 @@
 -- The line of a call. (This project's profile.)
-use Rattle.std.specs.Prelude.{ℕ, ◌==◌, ◌&&◌, ◌||◌, ◌*◌, ◌+◌, List, [], ◌∷◌, ◌++◌, codes, length, map, flat_map, take, drop, slice_index, nat_le, nat_lt, if◌then◌else◌, Option, Some, None}
-use Rattle.std.specs.List.{range_with_len, before_first}
+use Rattle.std.specs.Prelude.{ℕ, ◌==◌, ◌*◌, ◌+◌, ◌-◌, List, [], ◌∷◌, ◌++◌, codes, length, map, take, drop, slice_index, nat_lt, if◌then◌else◌}
+use Rattle.std.specs.List.{range_with_len}
 use Rattle.std.specs.Fmt.{decimal}
 use Rattle.interaction_trees.specs.Outcome.{Outcome, Step, Stop}
 use Rattle.i8080.specs.Registers.{onward, word}
 use Rattle.console_calls.specs.declared.cause.Cause.{Cause}
-use Rattle.filenames.specs.ControlBlock.{place_of}
+use Rattle.filenames.specs.ControlBlock.{name_at, place_of}
 use Rattle.filenames.specs.Drives.{drive_number}
-use Rattle.filenames.specs.Names.{is_blank, drive_text, type_text}
-use Rattle.filenames.specs.declared.drive.Drive.{Drive}
-use Rattle.bdos.specs.FileCalls.{drive_of_byte}
 use Rattle.machine.specs.PlainState.{PlainState}
 use Rattle.machine.specs.Regs.{Regs}
 use Rattle.report_lines.specs.FirstLines.{byte_text, word_text, line}
 use Rattle.trace_lines.specs.CallForms.{call_name, argument_of, is_read, returned_of}
+use Rattle.trace_lines.specs.Texts.{escaped, name_text}
 use Rattle.trace_lines.specs.declared.forms.Argument.{Argument}
 use Rattle.trace_lines.specs.declared.forms.Argument.TheVariants as argument
 use Rattle.trace_lines.specs.declared.forms.Returned.{Returned}
 use Rattle.trace_lines.specs.declared.forms.Returned.TheVariants as returned
-
--- A byte of a text: `"` and `\` after a `\`, then `\r`, `\n`, `\t`, and other control bytes and those above 7EH as `\x` and two digits.
-abbrev pub escaped_byte : ℕ → List ℕ
-escaped_byte b =
-    if b == 34 || b == 92 then 92 ∷ b ∷ []
-    else if b == 13 then codes "\\r"
-    else if b == 10 then codes "\\n"
-    else if b == 9 then codes "\\t"
-    else if nat_le 0x20 b && nat_le b 0x7e then b ∷ []
-    else codes "\\x" ++ byte_text b
-
-abbrev pub escaped : List ℕ → List ℕ
-escaped bytes = flat_map escaped_byte bytes
 
 -- ---- what a call is given
 
@@ -41,20 +26,13 @@ address_in r = word r.e r.d
 abbrev pub block_in : PlainState → List ℕ
 block_in w = map (λ i. slice_index w.memory (onward (address_in w.core.regs) i)) (range_with_len 0 36)
 
--- The drive that a control block names, by its letter unless that is A; `?:` if there is no such drive.
-abbrev pub drive_part : Option Drive → List ℕ
-drive_part None = codes "?:"
-drive_part (Some drive) = drive_text (drive_number drive)
+-- The number of the drive that the control block names, 0 for A. From 4 on there is no such drive.
+abbrev pub drive_in : PlainState → ℕ
+drive_in w = if slice_index (block_in w) 0 == 0 then drive_number w.core.desk.spot.drive else slice_index (block_in w) 0 - 1
 
--- The name of a file in a control block: the bytes before the first blank of the eight from an index on, and of the three after them.
-abbrev pub name_text : Drive → List ℕ → ℕ → List ℕ
-name_text current block at =
-    drive_part (drive_of_byte current (slice_index block 0))
-    ++ escaped (before_first is_blank (take 8 (drop at block)))
-    ++ escaped (type_text (before_first is_blank (take 3 (drop (at + 8) block))))
-
+-- A file of the control block, by the drive and the eleven bytes from an index on.
 abbrev pub file_text : PlainState → ℕ → List ℕ
-file_text w at = name_text w.core.desk.spot.drive (block_in w) at
+file_text w at = name_text (drive_in w ∷ name_at (block_in w) at)
 
 -- A record number, and the buffer that gets the record or has it.
 abbrev pub record_text : PlainState → ℕ → List ℕ

@@ -1,4 +1,4 @@
--- The bytes of an instruction that were read. (This project's own.)
+-- The line of an instruction by the three bytes at PC, as they were read. (This project's own.)
 use Rattle.std.specs.Prelude.{◌≡◌, ℕ, zero, suc, ◌==◌, List, [], ◌++◌, codes, slice_index, if◌then◌else◌}
 use Rattle.std.specs.Fmt.{decimal}
 use Rattle.i8080.specs.Opcodes.{decoded}
@@ -12,7 +12,7 @@ use Rattle.trace_lines.specs.StepLines.{cell_in, first_byte, second_byte, third_
 use Rattle.trace_lines.specs.declared.accesses.Row.{Row}
 use Rattle.trace_lines.specs.declared.step_lines.Code.{Code}
 
--- A cell with two bytes of it, one after the other.
+-- A cell with its bytes before and after.
 abbrev pub cell_text : ℕ → ℕ → ℕ → List ℕ
 cell_text at old new = codes " cell " ++ word_text at ++ codes " " ++ byte_text old ++ codes " to " ++ byte_text new
 
@@ -23,13 +23,13 @@ row_text r old w =
     else if r.count == 1 then cell_text r.at (slice_index old 0) (cell_in w r.at)
     else cell_text r.at (slice_index old 0) (cell_in w r.at) ++ cell_text (onward r.at 1) (slice_index old 1) (cell_in w (onward r.at 1))
 
--- They are those at the PC of a run.
+-- A code has the three bytes at the PC of a run.
 pub record IsCodeAt (code : Code) (r : RunView) : Type 0 where
   pub first : code.first ≡ first_byte (state_of r)
   pub second : code.second ≡ second_byte (state_of r)
   pub third : code.third ≡ third_byte (state_of r)
 
--- The digits of as many of them as the instruction has.
+-- The digits of the first n bytes of a code, at most three.
 abbrev pub first_digits : ℕ → Code → List ℕ
 first_digits zero code = []
 first_digits (suc zero) code = byte_text code.first

@@ -1,5 +1,6 @@
 pub mod CallForms
 pub mod CallLines
+pub mod Texts
 pub mod Rows
 pub mod StepLines
 pub mod Codes

@@ -1,17 +1,16 @@
 // The lines of calls.
 
-ghost use Rattle.std.specs.Prelude.{◌≡◌, ◌≤◌, ◌+◌, ◌++◌, codes, drop, take};
-ghost use Rattle.std.specs.List.{before_first};
-ghost use Rattle.filenames.specs.Names.{is_blank, type_text};
+ghost use Rattle.std.specs.Prelude.{◌≡◌, ◌∷◌, ◌++◌, codes, take};
 ghost use Rattle.machine.specs.Runs.{state_of};
 ghost use Rattle.streams.specs.Pushing.{more};
 ghost use Rattle.trace_lines.specs.CallForms.{argument_of, returned_of};
-ghost use Rattle.trace_lines.specs.CallLines.{argument_text, block_in, block_text, call_start, count_text, drive_part, escaped, file_text, name_text, printed_text, record_text, returned_text, whole_place_of};
+ghost use Rattle.trace_lines.specs.CallLines.{argument_text, block_in, block_text, call_start, count_text, drive_in, file_text, printed_text, record_text, returned_text, whole_place_of};
+ghost use Rattle.trace_lines.specs.Texts.{name_text};
 
 use crate::escapes::push_escaped;
+use crate::file_texts::{key_on, push_name};
 use crate::forms::{Argument, Returned, argument_of, call_name, is_read, returned_of};
-use bdos::drive_of_byte;
-use filenames::{Drive, Fcb, find_byte};
+use filenames::Fcb;
 use i8080::word_of;
 use itoa::Buffer;
 use machine::{Regs, Run};
@@ -29,49 +28,6 @@ pub fn block_at(run: &Run<'_>) -> Fcb
         bytes[usize::from(i)] = run.byte(at.wrapping_add(i));
     }
     Fcb::from_bytes(&bytes)
-}
-
-// Returns the letter and the colon before a name, if the drive is not A.
-fn drive_part(drive: Option<Drive>) -> &'static str
-    ensures { result.now ≡ drive_part drive }
-{
-    match drive {
-        None => "?:",
-        Some(Drive::A) => "",
-        Some(Drive::B) => "B:",
-        Some(Drive::C) => "C:",
-        Some(Drive::D) => "D:",
-    }
-}
-
-// Returns the bytes before the first blank of a field of a control block.
-fn trimmed(block: &[u8; 36], at: usize, count: usize) -> &[u8]
-    requires { at + count ≤ 36 }
-    ensures { result.now ≡ before_first is_blank (take count (drop at block.now)) }
-{
-    let field = &block[at..at + count];
-    &field[..find_byte(field, b' ')]
-}
-
-// Appends a type with a dot before it, if it is not empty.
-fn push_type<X: Text>(text: &mut X, kind: &[u8])
-    ensures { X.pushed text.new ≡ more (X.pushed text.old) (escaped (type_text kind.now)) }
-{
-    if kind.is_empty() {
-        return;
-    }
-    text.push(b".");
-    push_escaped(text, kind)
-}
-
-// Appends the name of a file in a control block, from an index on.
-fn push_name<X: Text>(text: &mut X, current: Drive, block: &[u8; 36], at: usize)
-    requires { at ≤ 17 }
-    ensures { X.pushed text.new ≡ more (X.pushed text.old) (name_text current block.now at) }
-{
-    text.push(drive_part(drive_of_byte(current, block[0])).as_bytes());
-    push_escaped(text, trimmed(block, at, 8));
-    push_type(text, trimmed(block, at + 8, 3))
 }
 
 // Appends a record number, and the buffer that gets the record or has it.
@@ -95,13 +51,25 @@ fn whole_place(block: &Fcb) -> u32
     block.random() + 65536 * u32::from(block.r2())
 }
 
-// Appends the name of a file in the control block at DE, from an index on.
-fn push_file<X: Text>(text: &mut X, run: &Run<'_>, block: &Fcb, at: usize)
-    requires index { at ≤ 17 }
-    requires block { block.now ≡ block_in (state_of run.now) }
-    ensures { X.pushed text.new ≡ more (X.pushed text.old) (file_text (state_of run.now) at) }
+// Returns the number of the drive that the control block at DE names.
+fn drive_in(run: &Run<'_>, block: &Fcb) -> u8
+    requires { block.now ≡ block_in (state_of run.now) }
+    ensures { result ≡ drive_in (state_of run.now) }
 {
-    push_name(text, run.drive(), &block.to_bytes(), at)
+    if block.dr() == 0 {
+        run.drive().number()
+    } else {
+        block.dr() - 1
+    }
+}
+
+// Appends a file of the control block at DE, by the eleven bytes of its name.
+fn push_file<X: Text>(text: &mut X, run: &Run<'_>, block: &Fcb, name: [u8; 11])
+    requires { block.now ≡ block_in (state_of run.now) }
+    ensures { X.pushed text.new
+        ≡ more (X.pushed text.old) (name_text (drive_in (state_of run.now) ∷ name)) }
+{
+    push_name(text, &key_on(drive_in(run, block), name))
 }
 
 // Appends what the line shows of the control block at DE after its file.
@@ -112,7 +80,7 @@ fn push_rest<X: Text>(text: &mut X, run: &Run<'_>, block: &Fcb, argument: Argume
     match argument {
         Argument::Renaming => {
             text.push(b" to ");
-            push_file(text, run, block, 17)
+            push_file(text, run, block, block.new_key())
         }
         Argument::NextRecord => push_record(text, run, block.place()),
         Argument::ChosenRecord => push_record(text, run, whole_place(block)),
@@ -127,7 +95,7 @@ fn push_block<X: Text>(text: &mut X, run: &Run<'_>, argument: Argument)
 {
     let block = block_at(run);
     text.push(b" ");
-    push_file(text, run, &block, 1);
+    push_file(text, run, &block, block.key());
     push_rest(text, run, &block, argument)
 }
 

@@ -2,7 +2,7 @@
 
 ghost use Rattle.std.specs.Prelude.{◌≡◌};
 ghost use Rattle.streams.specs.Pushing.{more};
-ghost use Rattle.trace_lines.specs.CallLines.{escaped, escaped_byte};
+ghost use Rattle.trace_lines.specs.Texts.{escaped, escaped_byte};
 
 use report_lines::byte_digits;
 use streams::Text;

@@ -1,12 +1,13 @@
 //! The lines of a trace: of calls, and of instructions.
 //!
-//! - `forms`, `escapes`, `call_lines`: what the lines of calls show
+//! - `forms`, `file_texts`, `escapes`, `call_lines`: what the lines of calls show
 //! - `accesses`, `step_lines`: the cells that an instruction reads and writes; the lines of instructions
 #![tactic(auto)]
 
 mod accesses;
 mod call_lines;
 mod escapes;
+mod file_texts;
 mod forms;
 mod step_lines;
 

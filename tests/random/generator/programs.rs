@@ -178,7 +178,8 @@ impl Builder {
         for byte in &key[1..] {
             let byte = match () {
                 _ if all || some && self.random.chance(40) => b'?',
-                _ if spoilt && self.random.chance(30) => self.random.byte(),
+                _ if spoilt && self.random.chance(15) => self.random.byte(),
+                _ if spoilt && self.random.chance(15) => *self.random.pick(b" .:"),
                 _ => *byte,
             };
             self.datum(Kind::Letter, byte);

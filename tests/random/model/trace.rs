@@ -207,26 +207,31 @@ fn call_text(state: &State) -> String {
     format!("call {number} {}{given}", name_of_call(number))
 }
 
-// A file by the bytes of its control block: the drive, and the name at this offset.
+// A file by the bytes of its control block: the drive, and the name at this offset; its bytes in digits if a text would leave a doubt.
 fn file_text(state: &State, offset: u16) -> String {
-    let drive = match state.field(0) {
-        0 => drive_text(state.desk.drive),
-        letter @ 1..=4 => drive_text(letter - 1),
-        _ => "?:".to_string(),
-    };
-    let field = |start: u16, length: u16| -> String {
-        let bytes = (start..start + length).map(|offset| state.field(offset));
-        bytes.take_while(|byte| *byte != b' ').map(escaped).collect()
-    };
-    let kind = field(offset + FILE_NAME_BYTES, FILE_TYPE_BYTES);
-    let point = if kind.is_empty() { "" } else { "." };
-    drive + &field(offset, FILE_NAME_BYTES) + point + &kind
+    let drive = state.field(0).checked_sub(1).unwrap_or(state.desk.drive);
+    let bytes = |start: u16, count: u16| -> Vec<u8> { (start..start + count).map(|offset| state.field(offset)).collect() };
+    let name = bytes(offset, FILE_NAME_BYTES);
+    let kind = bytes(offset + FILE_NAME_BYTES, FILE_TYPE_BYTES);
+    match (plain_text(&name).as_deref(), plain_text(&kind).as_deref()) {
+        (None | Some(""), _) | (_, None) => [vec![drive], name, kind].concat().iter().fold("=".to_string(), |text, byte| format!("{text}{byte:02x}")),
+        (Some(name), Some("")) => drive_text(drive) + name,
+        (Some(name), Some(kind)) => format!("{}{name}.{kind}", drive_text(drive)),
+    }
+}
+
+// A field without the blanks at its end, unless a byte that is left is a blank, a point or a colon, or is not printable.
+fn plain_text(field: &[u8]) -> Option<String> {
+    let length = field.iter().rposition(|byte| *byte != b' ').map_or(0, |last| last + 1);
+    let is_plain = |byte: &u8| byte.is_ascii_graphic() && !b".:".contains(byte);
+    field[..length].iter().all(is_plain).then(|| field[..length].iter().map(|byte| escaped(*byte)).collect())
 }
 
 fn drive_text(drive: u8) -> String {
     match drive {
         0 => String::new(),
-        _ => format!("{}:", (b'A' + drive) as char),
+        1..=3 => format!("{}:", (b'A' + drive) as char),
+        _ => "?:".to_string(),
     }
 }
 

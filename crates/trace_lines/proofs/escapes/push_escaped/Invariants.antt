@@ -1,6 +1,6 @@
 use Rattle.std.proofs.Common.{◌≡◌, take}
 use Rattle.streams.specs.Pushing.{more}
-use Rattle.trace_lines.specs.CallLines.{escaped}
+use Rattle.trace_lines.specs.Texts.{escaped}
 use Rattle.trace_lines.proofs.escapes.push_escaped.Given as goal
 
 abbrev pub invariant-loop-byte : goal.invariant-loop-byte
