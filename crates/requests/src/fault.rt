@@ -1,5 +1,5 @@
 ghost use Rattle.std.specs.Prelude.{◌≡◌, IfOk, IfErr, string_bytes};
-ghost use Rattle.requests.specs.FaultReports.{ReportsFaultOrMemory, value_text};
+ghost use Rattle.requests.specs.FaultReports.{ReportsFaultOrMemory, bytes_of, message_line, value_text};
 ghost use Rattle.streams.specs.Streams.{WritesOrFails};
 
 use crate::shown::message_line;
@@ -152,28 +152,46 @@ impl Fault<'_> {
         ensures made { IfOk result (λ message. bytes_of message ≡ message_of tool self.now) }
         ensures memory { IfErr result (λ _. NamesAValue self.now) }
     {
-        let line = match self {
-            Fault::Usage(text) => return Ok(Message::Fixed(text.as_str())),
-            Fault::NotText => return Ok(Message::Fixed(tool.not_text())),
-            Fault::CannotWrite => return Ok(Message::Fixed(tool.cannot_write())),
-            Fault::DiskUnchanged => return Ok(Message::Fixed(tool.disk_unchanged())),
-            Fault::OutOfMemory => return Ok(Message::Fixed(tool.out_of_memory())),
+        match self {
+            Fault::Usage(text) => Ok(Message::Fixed(text.as_str())),
+            Fault::NotText => Ok(Message::Fixed(tool.not_text())),
+            Fault::CannotWrite => Ok(Message::Fixed(tool.cannot_write())),
+            Fault::DiskUnchanged => Ok(Message::Fixed(tool.disk_unchanged())),
+            Fault::OutOfMemory => Ok(Message::Fixed(tool.out_of_memory())),
             Fault::BadEscape(text) => {
                 let mistake = "unknown escape after a backslash";
                 let text = value_text(alloc, text, "--typed <TEXT>", mistake)?;
-                return Ok(Message::Made(text.into_bytes()));
+                Ok(Message::Made(text.into_bytes()))
             }
-            Fault::CannotRead(path) => format!(in alloc; "cannot read {path}")?,
-            Fault::Folders(fault) => format!(in alloc; "{fault}")?,
-            Fault::Refused(number) => format!(in alloc; "session refused {number}")?,
-            Fault::Malformed(line) => format!(in alloc; "line {line} is malformed")?,
-            Fault::TooLong(line) => format!(in alloc; "line {line} is too long")?,
+            Fault::CannotRead(path) => {
+                line_message(alloc, tool, format!(in alloc; "cannot read {path}")?)
+            }
+            Fault::Folders(fault) => line_message(alloc, tool, format!(in alloc; "{fault}")?),
+            Fault::Refused(number) => {
+                line_message(alloc, tool, format!(in alloc; "session refused {number}")?)
+            }
+            Fault::Malformed(line) => {
+                line_message(alloc, tool, format!(in alloc; "line {line} is malformed")?)
+            }
+            Fault::TooLong(line) => {
+                line_message(alloc, tool, format!(in alloc; "line {line} is too long")?)
+            }
             Fault::RulePath(path) => {
-                format!(in alloc; "a rule for make cannot have the path {path}")?
+                line_message(
+                    alloc,
+                    tool,
+                    format!(in alloc; "a rule for make cannot have the path {path}")?,
+                )
             }
-        };
-        Ok(Message::Made(message_line(alloc, tool, line.as_str())?))
+        }
     }
+}
+
+// Returns the message with this line.
+fn line_message<'s>(alloc: Global, tool: Tool, line: String) -> Result<Message<'s>, AllocError>
+    ensures { IfOk result (λ message. bytes_of message ≡ message_line tool (string_bytes line)) }
+{
+    Ok(Message::Made(message_line(alloc, tool, line.as_str())?))
 }
 
 /// Returns the message for an option with a value that it cannot have, worded as `clap` words it.
