@@ -47,7 +47,7 @@ class RunAllTest(WorkTest):
         self.env = {**os.environ, 'TMPDIR': str(self.work / 'temporary'), 'PLACE': str(self.work / 'place')}
 
     def make_module(self, name: str, text: str) -> None:
-        head = 'import atexit, os, subprocess, sys, tempfile, unittest, warnings\nclass It(unittest.TestCase):\n'
+        head = 'import atexit, os, subprocess, sys, tempfile, time, unittest, warnings\nclass It(unittest.TestCase):\n'
         self.put(f'tests/check/{name}.py', f'{head}    {text}\n')
 
     def run_all(self, *modules: str) -> tuple[int, list[str]]:
@@ -86,7 +86,7 @@ class RunAllTest(WorkTest):
             self.make_module(name, f'''def test_waits(self):
         open("places/{name}", "w").close()
         print("{name} begins", flush=True)
-        while len(os.listdir("places")) < {len(names)}: pass
+        while len(os.listdir("places")) < {len(names)}: time.sleep(0.02)
         print("{name} ends", flush=True)''')
         status, lines = self.run_all()
         self.assertEqual((status, lines[-1]), (0, f'{len(names)} passed, 0 failed'))
