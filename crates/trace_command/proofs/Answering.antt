@@ -17,7 +17,7 @@ use Rattle.tracing.specs.declared.fault.TraceFault.TheVariants as trace
 use Rattle.requests.specs.FaultReports.{file_paths, of_load}
 use Rattle.requests.specs.declared.fault.Fault.{Fault}
 use Rattle.trace_command.specs.AreTraceWords.{AreTraceWords}
-use Rattle.trace_command.specs.Choices.{choice_of}
+use Rattle.trace_command.specs.Choices.{IsChoiceOf}
 use Rattle.trace_command.specs.TraceEnds.{BreaksAnswer, EndsWithTrace, FaultOf, RefusesValue, of_trace}
 
 -- An error of a trace is about no file.
@@ -41,7 +41,7 @@ module _ (words : List (List ℕ)) (w : TraceWords) (are : AreTraceWords words w
       → IfErr r (λ fault. (err : Output) → FaultOf words (world files out err) (world now out err) fault)
   refused r f out is fails same = rw is (λ err. inr (inr (w, are, inl (fails, (refl, same)))))
 
-  module _ (choice : Choice) (chosen : choice_of w ≡ Some choice) where
+  module _ (choice : Choice) (chosen : IsChoiceOf w choice) where
     -- The session could not be loaded.
     pub unloaded : {T : Type 0} (r : Result T Fault) (f : LoadFault) (out : Output) → r ≡ Err (of_load f) → FailsToLoad files w.session f
         → now.bytes ≡ files.bytes → IfErr r (λ fault. (err : Output) → FaultOf words (world files out err) (world now out err) fault)

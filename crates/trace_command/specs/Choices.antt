@@ -1,5 +1,5 @@
 -- The choice of steps that the words describe. (This project's profile.)
-use Rattle.std.specs.Prelude.{◌≡◌, ◌==◌, ◌&&◌, ℕ, Bool, nat_le, nat_lt, List, length, if◌then◌else◌, codes, Option, Some, None, option_map, unwrap_or}
+use Rattle.std.specs.Prelude.{◌≡◌, ◌==◌, ◌&&◌, ℕ, Bool, nat_le, nat_lt, List, length, if◌then◌else◌, codes, IsSome, Option, Some, None, unwrap_or}
 use Rattle.std.specs.Borrow.{Bor}
 use Rattle.std.specs.Char.{is_ascii_hexdigit}
 use Rattle.std.specs.List.{after_first, before_first, list_all, position_or_len}
@@ -42,28 +42,21 @@ cells_of text =
 abbrev pub file_of : List ℕ → Option Key
 file_of text = result_ok (name_of text)
 
--- The value of an option, which may be left out; `None` if its text has no meaning.
-abbrev pub value_of : {T : Type 0} → (List ℕ → Option T) → Option (Bor (List ℕ)) → Option (Option T)
-value_of meaning None = Some None
-value_of meaning (Some text) = option_map Some (meaning text.now)
+-- An option that is left out has no value. The value of another one is what its text means.
+abbrev pub IsValue : {T : Type 0} → (List ℕ → Option T) → Option (Bor (List ℕ)) → Option T → Type 0
+IsValue meaning None value = value ≡ None
+IsValue meaning (Some text) value = IsSome value × (value ≡ meaning text.now)
 
--- The choice with the values of the words, if each text has a meaning.
-abbrev pub choice_with : TraceWords → Option (Option ℕ) → Option (Option CellRange) → Option (Option CellRange) → Option (Option Key) → Option Choice
-choice_with w (Some address) (Some written) (Some read) (Some key) =
-    Some (record {
-      instructions = w.steps;
-      from = unwrap_or w.from 0;
-      to = unwrap_or w.to 18446744073709551615;
-      at = address;
-      writes = written;
-      reads = read;
-      file = key;
-      last = w.last;
-    })
-choice_with w address written read key = None
-
-abbrev pub choice_of : TraceWords → Option Choice
-choice_of w = choice_with w (value_of address_of w.at) (value_of cells_of w.writes) (value_of cells_of w.reads) (value_of file_of w.file)
+-- A choice has the values of the words.
+pub record IsChoiceOf (w : TraceWords) (c : Choice) : Type 0 where
+  pub instructions : c.instructions ≡ w.steps
+  pub from : c.from ≡ unwrap_or w.from 0
+  pub to : c.to ≡ unwrap_or w.to 18446744073709551615
+  pub at : IsValue address_of w.at c.at
+  pub writes : IsValue cells_of w.writes c.writes
+  pub reads : IsValue cells_of w.reads c.reads
+  pub file : IsValue file_of w.file c.file
+  pub last : c.last ≡ w.last
 
 -- ---- values that options cannot have
 

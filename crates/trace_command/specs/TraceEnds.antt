@@ -1,5 +1,5 @@
 -- The ways in which `cpmtrace` ends. (This project's profile.)
-use Rattle.std.specs.Prelude.{◌≡◌, ℕ, ◌⊎◌, List, Some}
+use Rattle.std.specs.Prelude.{◌≡◌, ℕ, ◌⊎◌, List}
 use Rattle.command_words.specs.ErrorClass.{HasErrorClass}
 use Rattle.command_words.specs.TraceLine.{trace_faults}
 use Rattle.command_words.specs.declared.error_classes.ErrorClass.TheVariants.{Information}
@@ -18,7 +18,7 @@ use Rattle.requests.specs.declared.fault.Fault.{Fault}
 use Rattle.requests.specs.declared.fault.Fault.TheVariants.{CannotWrite, OutOfMemory}
 use Rattle.requests.specs.declared.tool.Tool.TheVariants.{Cpmtrace}
 use Rattle.trace_command.specs.AreTraceWords.{AreTraceWords, RefusesWords}
-use Rattle.trace_command.specs.Choices.{IsBadValueOf, bad_value_text, choice_of}
+use Rattle.trace_command.specs.Choices.{IsBadValueOf, IsChoiceOf, bad_value_text}
 use Rattle.trace_command.specs.declared.choice.BadValue.{BadValue}
 
 -- The program's error for an error of the trace.
@@ -31,7 +31,7 @@ pub record TracesWords (words : List (List ℕ)) (before after : World) : Type 0
   pub w : TraceWords
   pub are : AreTraceWords words w
   pub choice : Choice
-  pub chosen : choice_of w ≡ Some choice
+  pub chosen : IsChoiceOf w choice
   pub s : Session
   pub of : IsLoadedFrom before.files w.session s
   pub written : WritesWhole before.out after.out (trace_text choice s)
@@ -65,7 +65,7 @@ FaultOf words before after fault =
     (RefusesWords words fault × WritesNothing before after)
     ⊎ FailsToInform (HasErrorClass (trace_faults words)) before after fault
     ⊎ ((w : TraceWords) × AreTraceWords words w × ((RefusesValue w fault × WritesNothing before after)
-    ⊎ ((choice : Choice) × (choice_of w ≡ Some choice) × (FailsToLoadSession w.session before after fault
+    ⊎ ((choice : Choice) × IsChoiceOf w choice × (FailsToLoadSession w.session before after fault
     ⊎ ((s : Session) × IsLoadedFrom before.files w.session s
     × BreaksAnswer (trace_text choice s) before.out after.out fault)))))
 

@@ -1,10 +1,10 @@
 // The choice of steps that the words describe.
 
-ghost use Rattle.std.specs.Prelude.{◌≡◌, Some, None, IfErr, IfOk};
+ghost use Rattle.std.specs.Prelude.{◌≡◌, IfErr, IfOk};
 ghost use Rattle.std.specs.Char.{is_ascii_hexdigit};
 ghost use Rattle.std.specs.List.{list_all};
 ghost use Rattle.trace_command.specs.Choices as texts;
-ghost use Rattle.trace_command.specs.Choices.{IsBadValueOf, IsUnread};
+ghost use Rattle.trace_command.specs.Choices.{IsBadValueOf, IsChoiceOf, IsUnread, IsValue};
 
 use command_words::TraceWords;
 use filenames::{Key, Name};
@@ -136,7 +136,7 @@ fn file_of(text: &str) -> Option<Key>
 
 // Returns the value of the option for an address.
 fn address_value<'a>(text: Option<&'a str>) -> Result<Option<u16>, BadValue<'a>>
-    ensures value { IfOk result (λ v. texts.value_of texts.address_of text.entry ≡ Some v) }
+    ensures value { IfOk result (IsValue texts.address_of text.entry) }
     ensures bad { IfErr result
         (λ bad. (bad.filter ≡ Filter.At) × IsUnread texts.address_of text.entry bad.value) }
 {
@@ -154,7 +154,7 @@ fn address_value<'a>(text: Option<&'a str>) -> Result<Option<u16>, BadValue<'a>>
 
 // Returns the value of an option for cells.
 fn cells_value<'a>(filter: Filter, text: Option<&'a str>) -> Result<Option<CellRange>, BadValue<'a>>
-    ensures value { IfOk result (λ v. texts.value_of texts.cells_of text.entry ≡ Some v) }
+    ensures value { IfOk result (IsValue texts.cells_of text.entry) }
     ensures bad { IfErr result
         (λ bad. (bad.filter ≡ filter) × IsUnread texts.cells_of text.entry bad.value) }
 {
@@ -172,7 +172,7 @@ fn cells_value<'a>(filter: Filter, text: Option<&'a str>) -> Result<Option<CellR
 
 // Returns the value of the option for a file.
 fn file_value<'a>(text: Option<&'a str>) -> Result<Option<Key>, BadValue<'a>>
-    ensures value { IfOk result (λ v. texts.value_of texts.file_of text.entry ≡ Some v) }
+    ensures value { IfOk result (IsValue texts.file_of text.entry) }
     ensures bad { IfErr result
         (λ bad. (bad.filter ≡ Filter.File) × IsUnread texts.file_of text.entry bad.value) }
 {
@@ -194,7 +194,7 @@ fn file_value<'a>(text: Option<&'a str>) -> Result<Option<Key>, BadValue<'a>>
 ///
 /// Returns `Err` if an option has a value that it cannot have.
 pub fn read_choice<'a>(words: &TraceWords<'a>) -> Result<Choice, BadValue<'a>>
-    ensures choice { IfOk result (λ choice. texts.choice_of words.now ≡ Some choice) }
+    ensures choice { IfOk result (IsChoiceOf words.now) }
     ensures bad { IfErr result (IsBadValueOf words.now) }
 {
     Ok(Choice {

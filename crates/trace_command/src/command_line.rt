@@ -1,11 +1,11 @@
 // The whole program except its `main`.
 
-ghost use Rattle.std.specs.Prelude.{◌≡◌, ◌⊎◌, Some, IfErr, IfOk, OnOk, map, string_bytes};
+ghost use Rattle.std.specs.Prelude.{◌≡◌, ◌⊎◌, IfErr, IfOk, OnOk, map, string_bytes};
 ghost use Rattle.folders.specs.Failures.{KeepsFiles};
 ghost use Rattle.one_run.specs.World.{world};
 ghost use Rattle.streams.specs.Streams.{Output, WritesWhole};
 ghost use Rattle.requests.specs.FaultReports.{file_paths};
-ghost use Rattle.trace_command.specs.Choices.{choice_of};
+ghost use Rattle.trace_command.specs.Choices.{IsChoiceOf};
 ghost use Rattle.trace_command.specs.TraceEnds.{BreaksAnswer, EndsByFault, EndsWithTrace, FaultOf, RefusesValue};
 ghost use Rattle.tracing.specs.Trace.{trace_text};
 
@@ -22,7 +22,7 @@ use tracing::{Choice, TraceFault, write_trace};
 
 /// Returns the choice of steps that the words describe.
 fn choose<'a>(alloc: Global, words: &TraceWords<'_>) -> Result<Choice, Fault<'a>>
-    ensures choice { IfOk result (λ choice. choice_of words.now ≡ Some choice) }
+    ensures choice { IfOk result (IsChoiceOf words.now) }
     ensures fault { IfErr result (RefusesValue words.now) }
 {
     match read_choice(words) {

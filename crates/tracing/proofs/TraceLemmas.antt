@@ -41,18 +41,11 @@ module _ (r : RunView) (at : plain_after r.session r.step ≡ Some (state_of r))
 
 -- ---- the lines of a run that starts
 
-first_state : (s : Session) → unwrap_or (plain_after s 0) (loaded_machine s) ≡ loaded_machine s
-unfolding steps.after
-first_state s = refl
-
 -- All lines are left.
 pub all_left : (c : Choice) (r : RunView) (s : Session) → r.session ≡ s → r.step ≡ 0 → lines_left c r None ≡ all_lines c s
 all_left c r s same first =
     let all : r.session.limit - 0 ≡ r.session.limit = omega arith in
-    ap (λ (n : ℕ). lines c r.session (r.session.limit - n) n (unwrap_or (plain_after r.session n) (loaded_machine r.session))) first
-    ∙ ap (λ (k : ℕ). lines c r.session k 0 (unwrap_or (plain_after r.session 0) (loaded_machine r.session))) all
-    ∙ ap (λ (w : PlainState). lines c r.session r.session.limit 0 w) (first_state r.session)
-    ∙ ap (λ (x : Session). all_lines c x) same
+    ap (λ (n : ℕ). lines c r.session n (r.session.limit - n)) first ∙ ap (lines c r.session 0) all ∙ ap (all_lines c) same
 
 -- ---- how many lines there are
 

@@ -1,9 +1,8 @@
 -- The lines along a run.
-use Rattle.std.proofs.Common.{◌≡◌, ℕ, zero, suc, ◌+◌, ◌-◌, ◌<◌, ◌≤◌, Bool, true, false, List, [], ◌∷◌, ◌++◌, length, drop, ◌&&◌, ◌||◌, Option, Some, None, refl, sym, ◌∙◌, ap, arith, nat_le, subst, Ok, Err, IfOk, IfSome, IsErr, min, inl, inr, if◌then◌else◌}
+use Rattle.std.proofs.Common.{◌≡◌, ℕ, zero, suc, ◌+◌, ◌-◌, ◌<◌, ◌≤◌, Bool, true, false, List, [], ◌∷◌, ◌++◌, length, length-append, drop, ◌&&◌, ◌||◌, Option, Some, None, refl, sym, ◌∙◌, ap, arith, nat_le, subst, Ok, Err, IfOk, IfSome, IsErr, min, inl, inr, if◌then◌else◌}
 use Rattle.std.specs.List.{concat}
-use Rattle.interaction_trees.specs.Outcome.{Outcome, Step, Stop}
+use Rattle.interaction_trees.specs.Outcome.{Stop}
 use Rattle.interaction_trees.specs.Steps as steps
-use Rattle.interaction_trees.proofs.RunLemmas.{step_before}
 use Rattle.console_calls.specs.declared.cause.Cause.{Cause}
 use Rattle.machine.specs.Inputs.{Session}
 use Rattle.std.proofs.lemmas.Bool.{and_parts, cases_lt, lt-leb, ne_eqb}
@@ -23,59 +22,83 @@ use Rattle.tracing.specs.Walks.{EndsAt, GoesBy, IsEnd, IsWithin, WalksOn, Walked
 use Rattle.trace_filters.specs.Chosen.{has_line, is_call, is_chosen}
 use Rattle.trace_lines.specs.CallLines.{call_line}
 use Rattle.trace_lines.specs.StepLines.{is_instruction, step_line}
-use Rattle.tracing.specs.Trace.{line_of, lines, next_lines}
+use Rattle.tracing.specs.Trace.{line_at, line_of, lines}
 
 -- No step of a session from `from` on and below `upto` has a line.
 abbrev pub HasNoLine : Choice → Session → ℕ → ℕ → Type 0
 HasNoLine c s from upto = (i : ℕ) (w : PlainState) → from ≤ i → i < upto → plain_after s i ≡ Some w → has_line c s i w ≡ false
 
 module _ (c : Choice) (s : Session) where
-  -- The first line of some, if the first step has one.
-  pub first_line : (k n : ℕ) (w : PlainState) → has_line c s n w ≡ true → lines c s (suc k) n w ≡ line_of s n w ∷ next_lines (lines c s k) n (plain_outcome s w)
+  -- The line of a step, and those of the steps after it.
+  pub lines_next : (k n : ℕ) → lines c s n (suc k) ≡ line_at c s n (plain_after s n) ++ lines c s (n + 1) k
   unfolding lines
-  first_line k n w has = rw has refl
+  lines_next k n = refl
 
-  pub no_line : (k n : ℕ) (w : PlainState) → has_line c s n w ≡ false → lines c s (suc k) n w ≡ next_lines (lines c s k) n (plain_outcome s w)
+  pub no_steps : (n : ℕ) → lines c s n 0 ≡ []
   unfolding lines
-  no_line k n w none = rw none refl
+  no_steps n = refl
+
+  pub has_one : (n : ℕ) (w : PlainState) → plain_after s n ≡ Some w → has_line c s n w ≡ true → line_at c s n (plain_after s n) ≡ line_of s n w ∷ []
+  has_one n w at has = rw (at, has) refl
+
+  pub has_none : (n : ℕ) (w : PlainState) → plain_after s n ≡ Some w → has_line c s n w ≡ false → line_at c s n (plain_after s n) ≡ []
+  has_none n w at none = rw (at, none) refl
+
+  no_line_at : (n : ℕ) → ((w : PlainState) → plain_after s n ≡ Some w → has_line c s n w ≡ false) → (o : Option PlainState) → plain_after s n ≡ o → line_at c s n o ≡ []
+  no_line_at n none None at = refl
+  no_line_at n none (Some w) at = rw (none w at) refl
 
   -- Steps that have no lines.
-  pub lines_past : (d k k' n n' : ℕ) → k' ≡ d + k → n' ≡ d + n → (w w' : PlainState) → plain_after s n ≡ Some w → plain_after s n' ≡ Some w' → HasNoLine c s n n'
-      → lines c s k' n w ≡ lines c s k n' w'
-  unfolding steps.after
-  lines_past zero k k' n n' ek en w w' at at' none =
+  pub lines_past : (d k k' n n' : ℕ) → k' ≡ d + k → n' ≡ d + n → HasNoLine c s n n' → lines c s n k' ≡ lines c s n' k
+  lines_past zero k k' n n' ek en none =
       let same : n ≡ n' = omega (arith, en) in
       let counts : k' ≡ k = omega (arith, ek) in
-      let both : Some w ≡ Some w' = sym at ∙ ap (plain_after s) same ∙ at' in
-      let state : w ≡ w' = cc in
-      cc
-  lines_past (suc d) k k' n n' ek en w w' at at' none =
-      let next : n' ≡ suc (d + n) = omega (arith, en) in
-      let (b, here, went) = step_before (plain_outcome s) (plain_after s (d + n)) w' (rw next at at') in
-      let last : n' ≡ d + n + 1 = omega (arith, en) in
-      lines_past d (suc k) k' n (d + n) (omega (arith, ek)) refl w b at here (λ i x low high. none i x low (omega (arith, high, en)))
-      ∙ no_line k (d + n) b (none (d + n) b (omega arith) (omega (arith, en)) here)
-      ∙ ap (next_lines (lines c s k) (d + n)) went ∙ ap (λ (i : ℕ). lines c s k i w') (sym last)
+      λ j. lines c s (same j) (counts j)
+  lines_past (suc d) k k' n n' ek en none =
+      let count : k' ≡ suc (d + k) = omega (arith, ek) in
+      ap (lines c s n) count ∙ lines_next (d + k) n
+      ∙ ap (λ (ls : List (List ℕ)). ls ++ lines c s (n + 1) (d + k)) (no_line_at n (λ w at. none n w (omega arith) (omega (arith, en)) at) (plain_after s n) refl)
+      ∙ lines_past d k (d + k) (n + 1) n' refl (omega (arith, en)) (λ i w low high at. none i w (omega (arith, low)) high at)
 
   -- There are at most as many lines as steps.
-  pub lines_short : (k n : ℕ) (w : PlainState) → length (lines c s k n w) ≤ k
-  unfolding lines
-  lines_short zero n w = omega arith
-  lines_short (suc k) n w = pick (has_line c s n w) (next_short (λ w'. lines_short k (n + 1) w') (plain_outcome s w)) where
-    next_short : ((w' : PlainState) → length (lines c s k (n + 1) w') ≤ k) → (o : Outcome PlainState Cause) → length (next_lines (lines c s k) n o) ≤ k
-    next_short h (Step w') = h w'
-    next_short h (Stop cause) = omega arith
+  one_at_most : (n : ℕ) (o : Option PlainState) → length (line_at c s n o) ≤ 1
+  one_at_most n None = omega arith
+  one_at_most n (Some w) = pick (has_line c s n w) where
+    pick : (b : Bool) → length (if b then line_of s n w ∷ [] else []) ≤ 1
+    pick true = omega arith
+    pick false = omega arith
 
-    pick : (b : Bool) → length (next_lines (lines c s k) n (plain_outcome s w)) ≤ k
-        → length (if b then line_of s n w ∷ next_lines (lines c s k) n (plain_outcome s w) else next_lines (lines c s k) n (plain_outcome s w)) ≤ suc k
-    pick true h = omega (arith, h)
-    pick false h = omega (arith, h)
+  pub lines_short : (k n : ℕ) → length (lines c s n k) ≤ k
+  lines_short zero n = let none = ap length (no_steps n) in omega (arith, none)
+  lines_short (suc k) n =
+      let both = ap length (lines_next k n) ∙ length-append (line_at c s n (plain_after s n)) (lines c s (n + 1) k) in
+      let first = one_at_most n (plain_after s n) in
+      let rest = lines_short k (n + 1) in
+      omega (arith, both, first, rest)
+
+  -- After a stop there is no state, and no line.
+  none_after : (n : ℕ) → plain_after s n ≡ None → plain_after s (n + 1) ≡ None
+  unfolding steps.after
+  none_after n none = let more : n + 1 ≡ suc n = omega arith in ap (plain_after s) more ∙ ap (steps.next_state (plain_outcome s)) none
+
+  stopped_after : (n : ℕ) (w : PlainState) (cause : Cause) → plain_after s n ≡ Some w → plain_outcome s w ≡ Stop cause → plain_after s (n + 1) ≡ None
+  unfolding steps.after
+  stopped_after n w cause at stops =
+      let more : n + 1 ≡ suc n = omega arith in
+      ap (plain_after s) more ∙ ap (steps.next_state (plain_outcome s)) at ∙ ap steps.state_of stops
+
+  none_from : (k n : ℕ) → plain_after s n ≡ None → lines c s n k ≡ []
+  none_from zero n none = no_steps n
+  none_from (suc k) n none = lines_next k n ∙ ap (λ (o : Option PlainState). line_at c s n o ++ lines c s (n + 1) k) none ∙ none_from k (n + 1) (none_after n none)
+
+  pub stopped : (k n : ℕ) (w : PlainState) (cause : Cause) → plain_after s n ≡ Some w → plain_outcome s w ≡ Stop cause → lines c s (n + 1) k ≡ []
+  stopped k n w cause at stops = none_from k (n + 1) (stopped_after n w cause at stops)
 
   -- A step that stops the run and has no line.
-  pub stopped_past : (k n : ℕ) (w : PlainState) (cause : Cause) → has_line c s n w ≡ false → plain_outcome s w ≡ Stop cause → lines c s k n w ≡ []
-  unfolding lines
-  stopped_past zero n w cause none stops = refl
-  stopped_past (suc k) n w cause none stops = no_line k n w none ∙ ap (next_lines (lines c s k) n) stops
+  pub stopped_past : (k n : ℕ) (w : PlainState) (cause : Cause) → plain_after s n ≡ Some w → has_line c s n w ≡ false → plain_outcome s w ≡ Stop cause → lines c s n k ≡ []
+  stopped_past zero n w cause at none stops = no_steps n
+  stopped_past (suc k) n w cause at none stops =
+      lines_next k n ∙ ap (λ (ls : List (List ℕ)). ls ++ lines c s (n + 1) k) (has_none n w at none) ∙ stopped k n w cause at stops
 
 -- ---- which steps have none
 
@@ -136,37 +159,36 @@ walks_from c first old new before after (Err e) same w = subst (λ (ls : List (L
 
 -- ---- a step
 
-module _ (c : Choice) (old new : RunView) (same : new.session ≡ old.session) (below : old.step < old.session.limit) where
+module _ (c : Choice) (old new : RunView) (same : new.session ≡ old.session) (below : old.step < old.session.limit)
+    (at : plain_after old.session old.step ≡ Some (state_of old)) where
   count : old.session.limit - old.step ≡ suc (old.session.limit - old.step - 1)
   count = omega (arith, below)
 
-  after_step : (stop : Option Cause) → Leads old new stop
-      → next_lines (lines c old.session (old.session.limit - old.step - 1)) old.step (plain_outcome old.session (state_of old)) ≡ lines_left c new stop
+  -- The lines after a step.
+  abbrev rest : List (List ℕ)
+  rest = lines c old.session (old.step + 1) (old.session.limit - old.step - 1)
+
+  first_and_rest : lines_left c old None ≡ line_at c old.session old.step (plain_after old.session old.step) ++ rest
+  first_and_rest = ap (lines c old.session old.step) count ∙ lines_next c old.session (old.session.limit - old.step - 1) old.step
+
+  after_step : (stop : Option Cause) → Leads old new stop → rest ≡ lines_left c new stop
   after_step None (one, went) =
       let limits : new.session.limit ≡ old.session.limit = ap (λ (s : Session). s.limit) same in
       let left : old.session.limit - old.step - 1 ≡ new.session.limit - new.step = omega (arith, limits, one) in
-      ap (next_lines (lines c old.session (old.session.limit - old.step - 1)) old.step) went
-      ∙ ap (λ (k : ℕ). lines c old.session k (old.step + 1) (state_of new)) left
-      ∙ ap (λ (n : ℕ). lines c old.session (new.session.limit - new.step) n (state_of new)) (sym one)
-      ∙ ap (λ (s : Session). lines c s (new.session.limit - new.step) new.step (state_of new)) (sym same)
-  after_step (Some cause) (none, stops) = ap (next_lines (lines c old.session (old.session.limit - old.step - 1)) old.step) stops
+      λ j. lines c (sym same j) (sym one j) (left j)
+  after_step (Some cause) (none, stops) = stopped c old.session (old.session.limit - old.step - 1) old.step (state_of old) cause at stops
 
   pub unlined : (stop : Option Cause) → has_line c old.session old.step (state_of old) ≡ false → Leads old new stop → lines_left c old None ≡ lines_left c new stop
-  unlined stop none leads = ap (λ (k : ℕ). lines c old.session k old.step (state_of old)) count ∙ no_line c old.session (old.session.limit - old.step - 1) old.step (state_of old) none ∙ after_step stop leads
+  unlined stop none leads =
+      first_and_rest ∙ ap (λ (ls : List (List ℕ)). ls ++ rest) (has_none c old.session old.step (state_of old) at none) ∙ after_step stop leads
+
+  -- The first line, whatever the step leads to.
+  lined_first : has_line c old.session old.step (state_of old) ≡ true → lines_left c old None ≡ line_of old.session old.step (state_of old) ∷ rest
+  lined_first has = first_and_rest ∙ ap (λ (ls : List (List ℕ)). ls ++ rest) (has_one c old.session old.step (state_of old) at has)
 
   pub lined : (stop : Option Cause) → has_line c old.session old.step (state_of old) ≡ true → Leads old new stop
       → lines_left c old None ≡ line_of old.session old.step (state_of old) ∷ lines_left c new stop
-  lined stop has leads =
-      ap (λ (k : ℕ). lines c old.session k old.step (state_of old)) count
-      ∙ first_line c old.session (old.session.limit - old.step - 1) old.step (state_of old) has
-      ∙ ap (λ (t : List (List ℕ)). line_of old.session old.step (state_of old) ∷ t) (after_step stop leads)
-
-  -- The first line, whatever the step leads to.
-  lined_first : has_line c old.session old.step (state_of old) ≡ true → (left : List (List ℕ)) × (lines_left c old None ≡ line_of old.session old.step (state_of old) ∷ left)
-  lined_first has = (
-    next_lines (lines c old.session (old.session.limit - old.step - 1)) old.step (plain_outcome old.session (state_of old)),
-    ap (λ (k : ℕ). lines c old.session k old.step (state_of old)) count ∙ first_line c old.session (old.session.limit - old.step - 1) old.step (state_of old) has,
-  )
+  lined stop has leads = lined_first has ∙ ap (λ (ls : List (List ℕ)). line_of old.session old.step (state_of old) ∷ ls) (after_step stop leads)
 
   pub passes : (w : Walked) (result : Result (Option Cause) AllocError) → has_line c old.session old.step (state_of old) ≡ false → IfOk result (λ stop. Leads old new stop) → WalksOn c old w new w result
   passes w (Ok stop) none leads = ap (with_lines w) (sym (unlined stop none leads))
@@ -175,28 +197,27 @@ module _ (c : Choice) (old new : RunView) (same : new.session ≡ old.session) (
   pub adds : (v w : Walked) (result : Result (Option Cause) AllocError) → has_line c old.session old.step (state_of old) ≡ true → IfOk result (λ stop. Leads old new stop)
       → PushesText v.pushed w.pushed (kept_line v.skip (line_of old.session old.step (state_of old))) result → w.skip ≡ v.skip - 1 → WalksOn c old v new w result
   adds v w (Ok stop) has leads e f = with_next v w _ (lines_left c new stop) e f ∙ ap (with_lines v) (sym (lined stop has leads))
-  adds v w (Err e) has leads part f = let first = lined_first has in rw first.1 (part_longer _ part (kept_next v.skip _ first.0))
+  adds v w (Err e) has leads part f = rw (lined_first has) (part_longer _ part (kept_next v.skip _ rest))
 
 -- ---- steps without lines
 
-module _ (c : Choice) (old new : RunView) (same : new.session ≡ old.session) (up : old.step ≤ new.step) (is : IsSession old.session) (at : plain_after old.session old.step ≡ Some (state_of old))
-    (none : HasNoLine c old.session old.step new.step) where
+module _ (c : Choice) (old new : RunView) (same : new.session ≡ old.session) (up : old.step ≤ new.step) (none : HasNoLine c old.session old.step new.step) where
   -- A run went on.
-  pub goes_past : new.step ≤ old.session.limit → plain_after new.session new.step ≡ Some (state_of new) → lines_left c old None ≡ lines_left c new None
-  goes_past within at' =
+  pub goes_past : new.step ≤ old.session.limit → lines_left c old None ≡ lines_left c new None
+  goes_past within =
       let limits : new.session.limit ≡ old.session.limit = ap (λ (s : Session). s.limit) same in
-      lines_past c old.session (new.step - old.step) (new.session.limit - new.step) (old.session.limit - old.step) old.step new.step (omega (arith, limits, up, within)) (omega (arith, up))
-      (state_of old) (state_of new) at (subst (λ (s : Session). plain_after s new.step ≡ Some (state_of new)) same at') none
-      ∙ ap (λ (s : Session). lines c s (new.session.limit - new.step) new.step (state_of new)) (sym same)
+      lines_past c old.session (new.step - old.step) (new.session.limit - new.step) (old.session.limit - old.step) old.step new.step
+      (omega (arith, limits, up, within)) (omega (arith, up)) none
+      ∙ ap (λ (s : Session). lines c s new.step (new.session.limit - new.step)) (sym same)
 
   -- It came to a stop that has none.
-  pub stops_past : (cause : Cause) → (end : ℕ) → end ≤ old.session.limit → StopsBelow (session_answers new.session) end new.step cause → StopsHere new cause
+  pub stops_past : IsSession old.session → (cause : Cause) → (end : ℕ) → end ≤ old.session.limit → StopsBelow (session_answers new.session) end new.step cause → StopsHere new cause
       → has_line c old.session new.step (state_of new) ≡ false → lines_left c old None ≡ []
-  stops_past cause end high (below, st, there, stops) here silent =
-      let at' = plain_at new st (subst (λ (s : Session). IsSession s) (sym same) is) there in
-      goes_past (omega (arith, high, below)) at'
-      ∙ ap (λ (s : Session). lines c s (new.session.limit - new.step) new.step (state_of new)) same
-      ∙ stopped_past c old.session (new.session.limit - new.step) new.step (state_of new) cause silent (subst (λ (s : Session). plain_outcome s (state_of new) ≡ Stop cause) same here)
+  stops_past is cause end high (below, st, there, stops) here silent =
+      let at = plain_at new st (subst (λ (s : Session). IsSession s) (sym same) is) there in
+      goes_past (omega (arith, high, below))
+      ∙ stopped_past c new.session (new.session.limit - new.step) new.step (state_of new) cause at
+      (ap (λ (s : Session). has_line c s new.step (state_of new)) same ∙ silent) here
 
 -- A step at another PC is no call.
 pub is_no_call : (w : PlainState) → (w.core.regs.pc ≡ 0xfe06 → ⊥) → is_call w ≡ false
@@ -208,22 +229,12 @@ calls_alone c s from upto off calls i w low high at = silent c s i w off (is_no_
 
 -- ---- the first and the last steps
 
--- A run that starts is at the loaded machine.
-pub first_at : (r : RunView) → r.step ≡ 0 → plain_after r.session r.step ≡ Some (state_of r)
-unfolding steps.after
-first_at r first = rw first refl
-
 pub none_early : (c : Choice) (s : Session) (from upto : ℕ) → upto ≤ c.from → HasNoLine c s from upto
 none_early c s from upto low i w above below at = early c s i w (omega (arith, low, below))
 
 -- No step after the last one has a line.
-pub lines_late : (c : Choice) (s : Session) (k n : ℕ) (w : PlainState) → c.to < n → lines c s k n w ≡ []
-unfolding lines
-lines_late c s zero n w h = refl
-lines_late c s (suc k) n w h = no_line c s k n w (late c s n w h) ∙ rest (λ w'. lines_late c s k (n + 1) w' (omega (arith, h))) (plain_outcome s w) where
-  rest : ((w' : PlainState) → lines c s k (n + 1) w' ≡ []) → (o : Outcome PlainState Cause) → next_lines (lines c s k) n o ≡ []
-  rest e (Step w') = e w'
-  rest e (Stop cause) = refl
+pub lines_late : (c : Choice) (s : Session) (k n : ℕ) → c.to < n → lines c s n k ≡ []
+lines_late c s k n h = lines_past c s k 0 k n (k + n) (omega arith) refl (λ i w low high at. late c s i w (omega (arith, h, low))) ∙ no_steps c s (k + n)
 
 -- ---- a walk
 
@@ -253,26 +264,22 @@ stops_early c old new to same first soon within is other (Some cause) ends stops
     let low : new.step < to = ends.0 in
     let limits : new.session.limit ≡ old.session.limit = ap (λ (s : Session). s.limit) same in (
       (omega (arith, low, within, limits), stops),
-      stops_past c old new same (omega (arith, first)) is (first_at old first) (none_early c old.session old.step new.step (omega (arith, low, soon))) cause to within ends stops
+      stops_past c old new same (omega (arith, first)) (none_early c old.session old.step new.step (omega (arith, low, soon))) is cause to within ends stops
           (early c old.session new.step (state_of new) (omega (arith, low, soon))),
     )
 
-pub goes_early : (c : Choice) (old new : RunView) (to : ℕ) → new.session ≡ old.session → old.step ≡ 0 → to ≤ c.from → to ≤ old.session.limit → IsSession old.session → new.step ≡ to
-    → plain_after new.session new.step ≡ Some (state_of new) → lines_left c old None ≡ lines_left c new None
-goes_early c old new to same first soon within is here at =
-    goes_past c old new same (omega (arith, first)) is (first_at old first) (none_early c old.session old.step new.step (omega (arith, here, soon))) (omega (arith, here, within)) at
-
-no_steps : (c : Choice) (s : Session) (n : ℕ) (w : PlainState) → lines c s 0 n w ≡ []
-unfolding lines
-no_steps c s n w = refl
+pub goes_early : (c : Choice) (old new : RunView) (to : ℕ) → new.session ≡ old.session → old.step ≡ 0 → to ≤ c.from → to ≤ old.session.limit → new.step ≡ to
+    → lines_left c old None ≡ lines_left c new None
+goes_early c old new to same first soon within here =
+    goes_past c old new same (omega (arith, first)) (none_early c old.session old.step new.step (omega (arith, here, soon))) (omega (arith, here, within))
 
 -- No line is left after the last step.
 pub none_left : (c : Choice) (r : RunView) (end : ℕ) → r.step ≡ end → end ≡ min r.session.limit (c.to + 1) → lines_left c r None ≡ []
 none_left c r end here last = elim (cases_lt c.to r.step) [
-  | inl past ↦ lines_late c r.session (r.session.limit - r.step) r.step (state_of r) past
+  | inl past ↦ lines_late c r.session (r.session.limit - r.step) r.step past
   | inr before ↦
       let over : r.session.limit - r.step ≡ 0 = omega (arith, here, last, before) in
-      ap (λ (k : ℕ). lines c r.session k r.step (state_of r)) over ∙ no_steps c r.session r.step (state_of r)
+      ap (lines c r.session r.step) over ∙ no_steps c r.session r.step
 ]
 
 drop_none : (n : ℕ) → drop {A = List ℕ} n [] ≡ []
@@ -286,7 +293,7 @@ nothing_kept skip = ap concat (drop_none skip)
 pub end_left : (c : Choice) (r : RunView) (stop : Option Cause) → IsEnd r stop → lines_left c r stop ≡ []
 end_left c r None here =
     let over : r.session.limit - r.step ≡ 0 = omega (arith, here) in
-    ap (λ (k : ℕ). lines c r.session k r.step (state_of r)) over ∙ no_steps c r.session r.step (state_of r)
+    ap (lines c r.session r.step) over ∙ no_steps c r.session r.step
 end_left c r (Some cause) here = refl
 
 -- A run that was not stopped before the limit, or stopped there, is at its end.

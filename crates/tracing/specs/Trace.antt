@@ -1,10 +1,9 @@
 -- The trace of a session: the lines of its chosen steps, and then its stop. (This project's profile.)
-use Rattle.std.specs.Prelude.{ℕ, zero, suc, false, ◌+◌, ◌-◌, List, [], ◌∷◌, ◌++◌, length, take, drop, if◌then◌else◌, Option, Some, None}
-use Rattle.std.specs.List.{concat}
-use Rattle.interaction_trees.specs.Outcome.{Outcome, Step, Stop}
-use Rattle.console_calls.specs.declared.cause.Cause.{Cause}
+use Rattle.std.specs.Prelude.{ℕ, false, ◌-◌, List, [], ◌∷◌, ◌++◌, flat_map, length, take, drop, if◌then◌else◌, Option, Some, None}
+use Rattle.std.specs.List.{concat, range_with_len}
 use Rattle.machine.specs.Inputs.{Session}
-use Rattle.machine.specs.PlainState.{PlainState, loaded_machine, plain_outcome, plain_run}
+use Rattle.machine.specs.PlainLaid.{plain_after}
+use Rattle.machine.specs.PlainState.{PlainState, plain_outcome, plain_run}
 use Rattle.report_lines.specs.FirstLines.{stop_line}
 use Rattle.streams.specs.Streams.{Output, WritesPart, WritesWhole}
 use Rattle.trace_filters.specs.Chosen.{has_line, is_call}
@@ -18,19 +17,18 @@ use Rattle.tracing.specs.declared.fault.TraceFault.TheVariants.{CannotWrite, Out
 unfoldable pub line_of : Session → ℕ → PlainState → List ℕ
 line_of s n w = if is_call w then call_line n w (plain_outcome s w) else step_line s n w (plain_outcome s w)
 
--- The lines of at most k steps from step n on.
-abbrev pub next_lines : (ℕ → PlainState → List (List ℕ)) → ℕ → Outcome PlainState Cause → List (List ℕ)
-next_lines lines n (Step w) = lines (n + 1) w
-next_lines lines n (Stop cause) = []
+-- The line of step n, by the state before it: none if the step is not chosen, or if the run stops earlier.
+abbrev pub line_at : Choice → Session → ℕ → Option PlainState → List (List ℕ)
+line_at c s n None = []
+line_at c s n (Some w) = if has_line c s n w then line_of s n w ∷ [] else []
 
-unfoldable pub lines : Choice → Session → ℕ → ℕ → PlainState → List (List ℕ)
-lines c s zero n w = []
-lines c s (suc k) n w =
-    if has_line c s n w then line_of s n w ∷ next_lines (lines c s k) n (plain_outcome s w)
-    else next_lines (lines c s k) n (plain_outcome s w)
+-- The lines of k steps from step n on.
+unfoldable pub lines : Choice → Session → ℕ → ℕ → List (List ℕ)
+lines c s n k = flat_map (λ i. line_at c s i (plain_after s i)) (range_with_len n k)
 
+-- The lines of the steps below the limit.
 abbrev pub all_lines : Choice → Session → List (List ℕ)
-all_lines c s = lines c s s.limit 0 (loaded_machine s)
+all_lines c s = lines c s 0 s.limit
 
 -- The last ones, if only those are asked for.
 abbrev pub last_lines : Option ℕ → List (List ℕ) → List (List ℕ)

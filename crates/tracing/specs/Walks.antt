@@ -4,7 +4,7 @@ use Rattle.std.specs.List.{concat}
 use Rattle.console_calls.specs.declared.cause.Cause.{Cause}
 use Rattle.machine.specs.Inputs.{Session}
 use Rattle.machine.specs.PlainState.{plain_run}
-use Rattle.machine.specs.Runs.{RunView, StopsHere, state_of}
+use Rattle.machine.specs.Runs.{RunView, StopsHere}
 use Rattle.report_lines.specs.FirstLines.{stop_line}
 use Rattle.streams.specs.Pushing.{Pushed, PushesPart, more}
 use Rattle.tracing.specs.Trace.{all_lines, lines}
@@ -12,7 +12,7 @@ use Rattle.trace_filters.specs.declared.choice.Choice.{Choice}
 
 -- The lines from the step of a run on; none after a stop.
 abbrev pub lines_left : Choice → RunView → Option Cause → List (List ℕ)
-lines_left c r None = lines c r.session (r.session.limit - r.step) r.step (state_of r)
+lines_left c r None = lines c r.session r.step (r.session.limit - r.step)
 lines_left c r (Some cause) = []
 
 -- A line, or nothing while lines are left out.

@@ -124,6 +124,7 @@ fn push_step<X: Text>(
     text: &mut X,
 ) -> Result<Option<Cause>, AllocError>
     requires session { run.old.session ≡ session.now }
+    requires at { plain_after run.old.session run.old.step ≡ Some (state_of run.old) }
     requires below { run.old.step < run.old.session.limit }
     requires most { run.old.session.limit ≤ STEP_LIMIT }
     ensures session { run.new.session ≡ run.old.session }

@@ -1,7 +1,6 @@
 use Rattle.std.proofs.Common.{◌≡◌, ◌≤◌, [], false, None, ap, arith, length}
 use Rattle.tracing.specs.Trace.{all_lines}
 use Rattle.tracing.specs.Walks.{Walked, lines_left}
-use Rattle.machine.specs.PlainState.{loaded_machine}
 use Rattle.tracing.proofs.TraceLemmas.{all_left, none_failed}
 use Rattle.tracing.proofs.Walking.{end_left, lines_short}
 use Rattle.tracing.proofs.trace.lines_before_last.Goals as goal
@@ -15,5 +14,5 @@ returns c =
     let count = ap (λ (w : Walked). w.skip) c.in_ok-walk.ensures.lines in
     let none = ap length end in
     let all : length (lines_left ch c.args.run.now None) ≡ length (all_lines ch s) = ap length (all_left ch c.args.run.now s c.requires.session c.requires.first) in
-    let short : length (all_lines ch s) ≤ s.limit = lines_short ch s s.limit 0 (loaded_machine s) in
+    let short : length (all_lines ch s) ≤ s.limit = lines_short ch s s.limit 0 in
     omega (arith, all, count, none, short)

@@ -17,7 +17,7 @@ returns-in-Some-clause-lines g c =
     let none = calls_alone c.args.choice.now run.session run.step new.step c.if-choice.false (subst (λ (s : Session). MakesNoCall s run.step new.step) goes.session c.in_ok-cause.ensures.calls) in
     let end = rw c.in-Some.is at c.in_ok-cause.ensures.ends in
     ap (with_lines (walked (g.X.Text.pushed c.args.text.now) c.args.walker.now.skip)) (sym
-    (stops_past c.args.choice.now run new goes.session goes.low c.requires.valid c.requires.at none c.in-Some.cause c.args.end
+    (stops_past c.args.choice.now run new goes.session goes.low none c.requires.valid c.in-Some.cause c.args.end
     (omega (arith, c.requires.below)) end.0 end.2 (silent c.args.choice.now run.session new.step (state_of new) c.if-choice.false (is_no_call (state_of new) end.1))))
 
 pub returns-then-step-end-clause-lines : goal.returns-then-step-end-clause-lines
@@ -27,7 +27,7 @@ returns-then-step-end-clause-lines g c =
     let goes = c.in_ok-cause.ensures.goes in
     let none = calls_alone c.args.choice.now run.session run.step new.step c.if-choice.false (subst (λ (s : Session). MakesNoCall s run.step new.step) goes.session c.in_ok-cause.ensures.calls) in
     ap (with_lines (walked (g.X.Text.pushed c.args.text.now) c.args.walker.now.skip)) (sym
-    (goes_past c.args.choice.now run new goes.session goes.low c.requires.valid c.requires.at none (omega (arith, goes.high, c.requires.below)) c.step.ensures.at))
+    (goes_past c.args.choice.now run new goes.session goes.low none (omega (arith, goes.high, c.requires.below))))
 
 pub returns-clause-lines : goal.returns-clause-lines
 returns-clause-lines g c =
@@ -36,5 +36,5 @@ returns-clause-lines g c =
     let goes = c.in_ok-cause.ensures.goes in
     let none = calls_alone c.args.choice.now run.session run.step new.step c.if-choice.false (subst (λ (s : Session). MakesNoCall s run.step new.step) goes.session c.in_ok-cause.ensures.calls) in
     walks_from c.args.choice.now run new c.push_step-2.new.run _ _ c.push_step-2.result
-    (goes_past c.args.choice.now run new goes.session goes.low c.requires.valid c.requires.at none (omega (arith, goes.high, c.requires.below)) c.step.ensures.at)
+    (goes_past c.args.choice.now run new goes.session goes.low none (omega (arith, goes.high, c.requires.below)))
     c.push_step-2.ensures.lines

@@ -21,7 +21,7 @@ returns-then-branch-clause-lines g c =
     let run = c.args.run.now in
     let has : has_line c.args.choice.now run.session run.step (state_of run) ≡ true =
     ap (λ (s : Session). has_line c.args.choice.now s run.step (state_of run)) c.requires.session ∙ sym c.in_ok-has_line.ensures.line ∙ c.if-branch.true in
-    adds c.args.choice.now run c.push_chosen.new.run c.push_chosen.ensures.session c.requires.below _ _ c.push_chosen.result has c.push_chosen.ensures.leads c.push_chosen.ensures.line
+    adds c.args.choice.now run c.push_chosen.new.run c.push_chosen.ensures.session c.requires.below c.requires.at _ _ c.push_chosen.result has c.push_chosen.ensures.leads c.push_chosen.ensures.line
     c.push_chosen.ensures.skip
 
 pub take_step-requires : goal.take_step-requires
@@ -32,4 +32,4 @@ returns-clause-lines g c =
     let run = c.args.run.now in
     let none : has_line c.args.choice.now run.session run.step (state_of run) ≡ false =
     ap (λ (s : Session). has_line c.args.choice.now s run.step (state_of run)) c.requires.session ∙ sym c.in_ok-has_line.ensures.line ∙ c.if-branch.false in
-    passes c.args.choice.now run c.take_step.new.self c.take_step.ensures.session c.requires.below _ c.take_step.result none c.take_step.ensures.leads
+    passes c.args.choice.now run c.take_step.new.self c.take_step.ensures.session c.requires.below c.requires.at _ c.take_step.result none c.take_step.ensures.leads

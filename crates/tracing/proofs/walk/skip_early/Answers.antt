@@ -6,10 +6,8 @@ use Rattle.tracing.proofs.walk.skip_early.Goals as goal
 
 pub returns-then-step-to-clause-lines : goal.returns-then-step-to-clause-lines
 returns-then-step-to-clause-lines c =
-    let same = c.in_ok-stop.ensures.goes.session in
-    let is = subst (λ (s : Session). IsSession s) same c.step.ensures.session in
-    goes_early c.args.choice.now c.args.run.now c.advance.new.self c.args.to same c.requires.first c.requires.early c.requires.within is
-    (sym c.step.ensures.value ∙ c.if-step-to.true) c.step.ensures.at
+    goes_early c.args.choice.now c.args.run.now c.advance.new.self c.args.to c.in_ok-stop.ensures.goes.session c.requires.first c.requires.early c.requires.within
+    (sym c.step.ensures.value ∙ c.if-step-to.true)
 
 pub returns-clause-lines : goal.returns-clause-lines
 returns-clause-lines c =
