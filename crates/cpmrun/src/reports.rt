@@ -224,7 +224,7 @@ fn check_unread<'a, S: FileSystem>(
     option: &str,
     report: Option<&str>,
 ) -> Result<(), Fault<'a>>
-    ensures fault { IfErr result (texts.IsTakenFault report option.now texts.is_read) }
+    ensures fault { IfErr result (texts.IsTakenFault report.entry option.now texts.is_read) }
     ensures unchanged { KeepsFiles file_paths result (S.files system.old) (S.files system.new) }
 {
     let Some(path) = report else {
@@ -265,7 +265,7 @@ fn check_unchanged<'a, S: FileSystem>(
     option: &str,
     report: Option<&str>,
 ) -> Result<(), Fault<'a>>
-    ensures fault { IfErr result (texts.IsTakenFault report option.now texts.is_changed) }
+    ensures fault { IfErr result (texts.IsTakenFault report.entry option.now texts.is_changed) }
     ensures unchanged { KeepsFiles file_paths result (S.files system.old) (S.files system.new) }
 {
     let Some(path) = report else {
