@@ -148,7 +148,7 @@ class MessageTest(CommandTest):
         pipe, link = self.work / 'pipe', self.work / 'link'
         os.mkfifo(pipe)
         link.symlink_to(pipe)
-        for path in [pipe, link, '/dev/null']:
+        for path in [pipe, link]:
             with self.subTest(path):
                 self.expect(1, '', f'cpmrun: cannot read {path}\n', path, timeout=20)
 

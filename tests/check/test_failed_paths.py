@@ -27,9 +27,9 @@ class CallsTest(FailureTest):
         self.assertEqual(len(told), len(messages))
 
     def test_the_state_of_a_file_names_the_file(self) -> None:
-        """Of a folder, of a host file, and of what is at the path of a file that is written, or has its temporary name."""
+        """Of the program, of a folder, of a host file, and of what is at the path of a file that is written, or has its temporary name."""
         folders = [self.work / 'written' / drive for drive in 'abcd']
-        self.expect_messages('s', *(f'cannot read {path}' for path in (self.host(), *folders, self.work / 'host/x')),
+        self.expect_messages('s', *(f'cannot read {path}' for path in (self.work / 'drives.com', self.host(), *folders, self.work / 'host/x')),
                              *(f'cannot write {folder}/X' for folder in folders))
 
     def test_the_entries_of_a_folder_name_the_folder(self) -> None:

@@ -10,7 +10,7 @@ ghost use Rattle.streams.specs.Trails.{paths};
 use std::alloc::Global;
 use std::fs::{File, OpenFile, OpenOptions, Permissions, read_dir};
 use std::io::{BufWriter, ErrorKind, Read, Write};
-use std::os::unix::fs::{MetadataExt, OpenOptionsExt};
+use std::os::unix::fs::{FileTypeExt, MetadataExt, OpenOptionsExt};
 use std::rt::Files;
 use std::{fs, io};
 use streams::{Over, Reader, Trail};
@@ -75,8 +75,8 @@ pub trait FileSystem {
         ensures names { (files self.new).names ≡ (files self.old).names }
         ensures failed { (files self.new).failed ≡ path.now ∷ (files self.old).failed };
 
-    /// Reads a regular file, or the one at the end of a link: all of its bytes, or its first `most` if it has more. Anything else, such
-    /// as a pipe, is an error, since reading it could wait for ever.
+    /// Reads a file, or the one at the end of a link: all of its bytes, or its first `most` if it has more. A pipe is an error, since
+    /// opening it could wait for ever.
     fn read(&mut self, path: &str, most: u64) -> io::Result<Vec<u8>>
         ensures reads { IfOk result (λ bytes. ReadsFile (files self.old).bytes path.now most bytes.items) }
         ensures unchanged { KeepsFiles (io_paths path.now) result (files self.old) (files self.new) };
@@ -260,8 +260,8 @@ impl<R: Files<File = File> + AllocGlobal + Clone + Drop> SystemFiles<'_, R> {
     }
 
     // Opening a pipe waits for its other end, so what is there is looked at first.
-    fn read_regular(&self, path: &str, most: u64) -> io::Result<Vec<u8>> {
-        if !fs::metadata(self.rt, path)?.is_file() {
+    fn read_no_pipe(&self, path: &str, most: u64) -> io::Result<Vec<u8>> {
+        if fs::metadata(self.rt, path)?.file_type().is_fifo() {
             return Err(io::Error::from(ErrorKind::InvalidInput));
         }
         self.read_from(path, most)
@@ -354,7 +354,7 @@ impl<R: Files<File = File> + AllocGlobal + Clone + Drop> FileSystem for SystemFi
     }
 
     fn read(&mut self, path: &str, most: u64) -> io::Result<Vec<u8>> {
-        let bytes = self.read_regular(path, most);
+        let bytes = self.read_no_pipe(path, most);
         self.note(path, bytes)
     }
 

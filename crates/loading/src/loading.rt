@@ -56,7 +56,7 @@ pub fn open<'a, S: FileSystem>(system: &mut S, path: &'a str) -> Result<S::Input
     }
 }
 
-/// Reads the program at this path, a regular file.
+/// Reads the program at this path, which is no pipe.
 fn program_at<'a, S: FileSystem>(system: &mut S, path: &'a str) -> Result<Vec<u8>, LoadFault<'a>>
     ensures program { IfOk result
         (λ program. ReadsFile (S.files system.old).bytes path.now (PROGRAM_LIMIT + 1) program.items) }
