@@ -70,7 +70,7 @@ stop Limit
 program 0102-0104 step 1
 stop Limit
 ''', limit=2),
-    Listing('a run of no steps asks for nothing', '76', 'stop Limit\n', 'stop Limit\n', limit=0),
+    Listing('a run of no steps asks for nothing', 'HLT', 'stop Limit\n', 'stop Limit\n', limit=0),
     Listing(
         'the script and its end, for which the stop asks',
         'MVI C,1; CALL 5; MVI C,1; CALL 5; RET',
