@@ -15,12 +15,18 @@ READ_AND_SEARCH = assemble(['MVI C,1; CALL 5; MVI C,17; LXI D,5CH; CALL 5; RET']
 LENGTH_OF_FIRST = assemble(['MVI C,17; LXI D,5CH; CALL 5; LDA 8FH; ADI 30H; MOV E,A; MVI C,2; CALL 5; RET'])
 """Searches the name of its tail and prints byte 15 of the entry, the number of records, as a digit."""
 
-CANNOT_HAVE = 'cpmdeps: a rule for make cannot have the path '
 EVERYWHERE = b'\t\n\v\f\r%*:;=?[|'
 """The bytes with a meaning to make that no escape takes from them in each place of a rule."""
 
 AT_THE_END = b' &)\\'
 """The bytes that a file's path in a rule cannot end with."""
+
+
+def refusal(path: bytes) -> bytes:
+    """Returns the message for a path that a rule cannot have. It shows a control character by an escape."""
+    escapes = {9: b'\\t', 10: b'\\n', 13: b'\\r'}
+    shown = (escapes.get(byte, b'\\x%02X' % byte) if byte < 32 or byte == 127 else bytes([byte]) for byte in path)
+    return b'cpmdeps: a rule for make cannot have the path ' + b''.join(shown) + b'\n'
 
 
 def make(folder: Path | str, *words: object) -> subprocess.CompletedProcess:
@@ -217,14 +223,15 @@ class PathTest(RulesTest):
 
     def test_a_path_is_refused_before_anything_is_read(self) -> None:
         for path in 'a\nb', 'a=b', 'q;touch x/it.com', '%.com', 'x[1]', '~', './~root', '././~root/s', './/./~':
+            refused = refusal(path.encode()).decode()
             with self.subTest(path):
-                self.expect(1, '', f'{CANNOT_HAVE}{path}\n', 'none.com', '--make', path)
-                self.expect(1, '', f'{CANNOT_HAVE}{path}\n', path, '--make', 'made')
-                self.expect(1, '', f'{CANNOT_HAVE}{path}\n', 'none.com', '--make', 'made', '--console', path)
-                self.expect(1, '', f'{CANNOT_HAVE}{path}\n', 'none.com', '--make', 'made', '--files-d', path)
+                self.expect(1, '', refused, 'none.com', '--make', path)
+                self.expect(1, '', refused, path, '--make', 'made')
+                self.expect(1, '', refused, 'none.com', '--make', 'made', '--console', path)
+                self.expect(1, '', refused, 'none.com', '--make', 'made', '--files-d', path)
                 self.expect(1, '', 'cpmdeps: cannot read none.com\n', 'none.com', '--console', path)
         for path in 'made ', 'lib(a)', 'made\\', '.PHONY', './.IGNORE', './/././.PHONY':
-            self.expect(1, '', f'{CANNOT_HAVE}{path}\n', 'none.com', '--make', path)
+            self.expect(1, '', refusal(path.encode()).decode(), 'none.com', '--make', path)
             self.expect(1, '', 'cpmdeps: cannot read none.com\n', 'none.com', '--make', 'made', '--files', path)
 
     def test_each_byte_in_each_place(self) -> None:
@@ -254,7 +261,7 @@ class PathTest(RulesTest):
             words = [b'--make=' + paths['target'], b'--files=' + paths['folder'], b'--console=' + paths['script'], b'--', paths['program'], b'*.*']
             done = subprocess.run([DEPENDENCIES_PROGRAM, *words], cwd=name, capture_output=True)
             if done.returncode == 1 and not done.stdout:
-                if done.stderr == CANNOT_HAVE.encode() + path + b'\n':
+                if done.stderr == refusal(path):
                     return 'refused'
                 return 'not UTF-8' if done.stderr.startswith(b'error: invalid UTF-8') else str(done.stderr)
             if (done.returncode, done.stderr) != (0, b'stop WarmBoot\n'):
