@@ -23,6 +23,7 @@ GRACE = 10
 """The seconds that a process has after an interrupt to end its own processes."""
 
 ALONE = {
+    'test_build.Build.test_a_failure_is_reported_and_the_next_build_resumes': 'proves crates beside each other, for which memory must be free',
     'test_build.Build.test_each_crate_is_proved_after_those_that_it_uses_and_beside_the_others': 'two waits of 0.6 s must overlap',
     'test_build.Build.test_a_terminal_has_one_line_which_is_written_again': 'counts the lines that are written during waits',
     'test_command.InputTest.test_a_start_is_short': 'measures the time of a start',
