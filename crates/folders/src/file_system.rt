@@ -75,14 +75,13 @@ pub trait FileSystem {
         ensures names { (files self.new).names ≡ (files self.old).names }
         ensures failed { (files self.new).failed ≡ path.now ∷ (files self.old).failed };
 
-    /// Reads a file, or the one at the end of a link: all of its bytes, or its first `most` if it has more. A pipe is an error, since
-    /// opening it could wait for ever.
+    /// Reads what is at a path, which may be a pipe or a device: all of its bytes, or its first `most` if it has more.
     fn read(&mut self, path: &str, most: u64) -> io::Result<Vec<u8>>
         ensures reads { IfOk result (λ bytes. ReadsFile (files self.old).bytes path.now most bytes.items) }
         ensures unchanged { KeepsFiles (io_paths path.now) result (files self.old) (files self.new) };
 
-    /// Reads what is at a path, which may be a pipe or a device: all of its bytes, or its first `most` if it has more.
-    fn read_any(&mut self, path: &str, most: u64) -> io::Result<Vec<u8>>
+    /// Reads what is at a path, as `read` does. A pipe is an error, since opening it could wait for ever.
+    fn read_unless_pipe(&mut self, path: &str, most: u64) -> io::Result<Vec<u8>>
         ensures reads { IfOk result (λ bytes. ReadsFile (files self.old).bytes path.now most bytes.items) }
         ensures unchanged { KeepsFiles (io_paths path.now) result (files self.old) (files self.new) };
 
@@ -110,13 +109,13 @@ pub trait FileSystem {
         ensures unchanged { KeepsFiles (io_paths folder.now) result (files self.old) (files self.new) };
 
     /// Returns whether nothing is at a path at which the file of a target is to be written first. The path that an error adds is the
-    /// target, as it is not written.
+    /// target, which is then not written.
     fn is_free(&mut self, path: &str, target: &str) -> io::Result<bool>
         ensures unchanged { KeepsFiles (io_paths target.now) result (files self.old) (files self.new) };
 
     /// Writes a new file, if nothing is at the path, that is then to be moved to a target, with the mode of the file that is there, if
     /// one is, and makes sure that its contents outlast a power failure, if this is wanted. An error may leave a part of the file, but never
-    /// changes one that was there; the path that failed is the target, as it is not written.
+    /// changes one that was there; the path that failed is the target, which is then not written.
     fn write_new<C: Contents>(
         &mut self,
         path: &str,
@@ -260,7 +259,7 @@ impl<R: Files<File = File> + AllocGlobal + Clone + Drop> SystemFiles<'_, R> {
     }
 
     // Opening a pipe waits for its other end, so what is there is looked at first.
-    fn read_no_pipe(&self, path: &str, most: u64) -> io::Result<Vec<u8>> {
+    fn read_if_no_pipe(&self, path: &str, most: u64) -> io::Result<Vec<u8>> {
         if fs::metadata(self.rt, path)?.file_type().is_fifo() {
             return Err(io::Error::from(ErrorKind::InvalidInput));
         }
@@ -354,12 +353,12 @@ impl<R: Files<File = File> + AllocGlobal + Clone + Drop> FileSystem for SystemFi
     }
 
     fn read(&mut self, path: &str, most: u64) -> io::Result<Vec<u8>> {
-        let bytes = self.read_no_pipe(path, most);
+        let bytes = self.read_from(path, most);
         self.note(path, bytes)
     }
 
-    fn read_any(&mut self, path: &str, most: u64) -> io::Result<Vec<u8>> {
-        let bytes = self.read_from(path, most);
+    fn read_unless_pipe(&mut self, path: &str, most: u64) -> io::Result<Vec<u8>> {
+        let bytes = self.read_if_no_pipe(path, most);
         self.note(path, bytes)
     }
 

@@ -63,7 +63,7 @@ fn program_at<'a, S: FileSystem>(system: &mut S, path: &'a str) -> Result<Vec<u8
     ensures fault { IfErr result (IsReadFaultOf path.now) }
     ensures unchanged { KeepsFiles load_paths result (S.files system.old) (S.files system.new) }
 {
-    match system.read(path, PROGRAM_READ) {
+    match system.read_unless_pipe(path, PROGRAM_READ) {
         Ok(program) => Ok(program),
         Err(error) => Err(read_fault(error, path)),
     }
@@ -82,7 +82,7 @@ fn script_at<'a, S: FileSystem>(
     let Some(path) = path else {
         return Ok(Vec::new(system.alloc()));
     };
-    match system.read_any(path, SCRIPT_READ) {
+    match system.read(path, SCRIPT_READ) {
         Ok(script) => Ok(script),
         Err(error) => Err(read_fault(error, path)),
     }
