@@ -80,5 +80,5 @@ def read_cases(path: Path) -> list[Case]:
 
 
 def session_files() -> list[Path]:
-    """Returns the files of cases that are sessions; those of `command` and `trace` are words of a command line."""
-    return [path for path in sorted(FOLDER.glob('*/*.txt')) if path.parent.name not in ('command', 'trace')]
+    """Returns the files of cases that are sessions; those of `command`, `listing` and `trace` are words of a command line."""
+    return [path for path in sorted(FOLDER.glob('*/*.txt')) if path.parent.name not in ('command', 'listing', 'trace')]

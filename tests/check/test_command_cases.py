@@ -1,10 +1,10 @@
-"""Plays the cases of tests/cases/command and tests/cases/trace: the built cpmrun, or cpmtrace, with the words of a command line, in a folder of
-its own; its status, its two outputs and the files that it leaves."""
+"""Plays the cases of tests/cases/command, tests/cases/listing and tests/cases/trace: the built cpmrun, cpmdeps or cpmtrace with the words of a
+command line, in a folder of its own; its status, its two outputs and the files that it leaves."""
 import shlex
 from pathlib import Path
 
 from case_files import FOLDER, common_programs
-from helpers import PROGRAM, TRACE_PROGRAM, ProgramTest
+from helpers import DEPENDENCIES_PROGRAM, PROGRAM, TRACE_PROGRAM, ProgramTest
 from vembrusk.assembler import assemble
 from vembrusk.cases import parse_bytes, programs_in, rows_of, sections_of
 
@@ -45,6 +45,9 @@ class CommandCasesTest(ProgramTest):
 
     def test_command(self) -> None:
         self.play_folder('command', PROGRAM)
+
+    def test_listing(self) -> None:
+        self.play_folder('listing', DEPENDENCIES_PROGRAM)
 
     def test_trace(self) -> None:
         self.play_folder('trace', TRACE_PROGRAM)
