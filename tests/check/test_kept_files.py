@@ -296,6 +296,18 @@ class NameTest(DiskTest):
         self.assertEqual(self.log_of_calls('n', '21 NOTE.TXT'), ['n .note.txt.new.1 note.txt'])
         self.expect_files(**{'note.txt': RECORD, '.note.txt.new.2': b'mine too'}, **mine)
 
+    def test_a_file_is_not_written_if_all_temporary_names_are_taken(self) -> None:
+        self.put('disk/note.txt', 'one')
+        names = ['.note.txt.new', *(f'.note.txt.new.{number}' for number in range(1, 1000))]
+        for name in names:
+            self.put(f'disk/{name}', '')
+        self.expect(1, '', f'cpmrun: cannot write {self.disk}/note.txt: no temporary name beside it is free\n',
+                    self.put('calls.com', calls('21 NOTE.TXT')), '--disk', self.disk)
+        self.expect_names(self.disk, 'note.txt', *names)
+        self.assertEqual((self.disk / 'note.txt').read_text(), 'one')
+        (self.disk / names[-1]).unlink()
+        self.assertEqual(self.log_of_calls('n', '21 NOTE.TXT'), [f'n {names[-1]} note.txt'])
+
     def test_a_temporary_name_may_be_a_folder_a_link_or_a_fifo(self) -> None:
         kinds = ['folder', 'fifo', 'link', 'nowhere']
         for number, kind in enumerate(kinds):

@@ -365,6 +365,8 @@ class ErrorTest(DependenciesTest):
         folder = self.make_folder('disk', x=bytes(8_388_609))
         long = self.put('long.com', bytes(64513))
         twice = self.make_folder('twice', **{'a.txt': b'', 'A.TXT': b''})
+        many = self.make_folder('many', **{f'f{number:03}': b'' for number in range(513)})
+        not_text = self.make_folder('not-text', **{os.fsdecode(b'\xff'): b''})
         for message, words in [
             ('cannot read none.com', ['none.com']),
             ('cannot read none.txt', [HI, '--console', 'none.txt']),
@@ -373,6 +375,8 @@ class ErrorTest(DependenciesTest):
             ('session refused 3', [HI, 'a\tb']),
             ('file C:X refused 1', [HI, '--files-c', folder]),
             ('two files are B:A.TXT', [HI, '--files-b', twice]),
+            ('file F512 refused 2', [HI, '--files', many]),
+            (f'cannot read {not_text}', [HI, '--files-d', not_text]),
         ]:
             for more in [], ['--make', 'made'], ['--by-step']:
                 with self.subTest(message, words=words, more=more):

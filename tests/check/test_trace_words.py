@@ -58,6 +58,16 @@ class TraceWordsTest(ProgramTest):
     def test_words_that_are_not_text(self) -> None:
         self.expect(1, '', f'error: invalid UTF-8 was detected in one or more arguments\n{USAGE}', HI, b'\xff')
 
+    def test_folders_that_are_no_drives(self) -> None:
+        """One has a name that is not text, the other a 513th file."""
+        not_text, many = self.work / 'not-text', self.work / 'many'
+        for folder, names in (not_text, [os.fsdecode(b'\xff')]), (many, [f'f{number:03}' for number in range(513)]):
+            folder.mkdir()
+            for name in names:
+                (folder / name).touch()
+        self.expect(1, '', f'cpmtrace: cannot read {not_text}\n', HI, '--files-d', not_text)
+        self.expect(1, '', 'cpmtrace: file F512 refused 2\n', HI, '--files', many)
+
     def test_help_and_version(self) -> None:
         self.expect(0, 'cpmtrace 1.0.0\n', '', '--version')
         for words in ['--help'], ['-h'], [HI, '--help']:
