@@ -3,6 +3,7 @@
 ghost use Rattle.std.specs.Prelude.{◌≡◌, is_some, map, [], ◌∷◌};
 ghost use Rattle.command_words.specs.Clashes as texts;
 
+use crate::clashes::Clash::{Both, Missing};
 use crate::trace_words::TraceWords;
 use crate::words::{DependencyWords, SessionWords, Words};
 
@@ -17,66 +18,24 @@ pub enum Clash {
     Missing(&'static str),
 }
 
-// The options for the folders of host files and for those of changed files, A to D.
-const FILES: [&str; 4] = [
-    "--files <DIR>",
-    "--files-b <DIR>",
-    "--files-c <DIR>",
-    "--files-d <DIR>",
-];
+// Two options, and what is wrong if both are given, or for `Missing` if only the first is given.
+type Check<'a> = (Option<&'a str>, Option<&'a str>, Clash);
 
-const OUT: [&str; 4] = [
-    "--out <DIR>",
-    "--out-b <DIR>",
-    "--out-c <DIR>",
-    "--out-d <DIR>",
-];
-
-// Returns two options with these names, if both are given.
-fn both(
-    a: Option<&str>,
-    b: Option<&str>,
-    first: &'static str,
-    second: &'static str,
-) -> Option<Clash>
-    ensures { texts.names_of result ≡ texts.first_failed
-        (texts.exclusive (texts.are_both a.entry b.entry) first.now second.now ∷ []) }
+// Returns what is wrong by the first check that fails.
+fn first_failed(checks: &[Check<'_>]) -> Option<Clash>
+    ensures any { is_some result ≡ is_some (texts.first_failed (map texts.check_of checks.now)) }
+    ensures first { texts.names_of result ≡ texts.first_failed (map texts.check_of checks.now) }
 {
-    if a.is_some() && b.is_some() {
-        return Some(Clash::Both(first, second));
+    for (one, other, clash) in checks {
+        let fails = match clash {
+            Missing(_) => other.is_none(),
+            _ => other.is_some(),
+        };
+        if one.is_some() && fails {
+            return Some(*clash);
+        }
     }
     None
-}
-
-// Returns the options for the script, if both are given.
-fn script_clash(console: Option<&str>, typed: Option<&str>) -> Option<Clash>
-    ensures { texts.names_of result ≡ texts.first_failed
-        (texts.script_check console.entry typed.entry ∷ []) }
-{
-    both(console, typed, "--console <FILE>", "--typed <TEXT>")
-}
-
-// Returns the options of the first drive that has a folder and a disk.
-fn drives_clash(
-    folders: &[Option<&str>; 4],
-    disks: &[Option<&str>; 4],
-    names: &[&'static str; 4],
-) -> Option<Clash>
-    ensures { texts.names_of result ≡ texts.first_failed
-        (texts.drive_checks (map (λ s. s.now) names.now) texts.disk_options folders.now disks.now) }
-{
-    let [a, b, c, d] = *folders;
-    let [disk_a, disk_b, disk_c, disk_d] = *disks;
-    if let Some(clash) = both(a, disk_a, names[0], "--disk <DIR>") {
-        return Some(clash);
-    }
-    if let Some(clash) = both(b, disk_b, names[1], "--disk-b <DIR>") {
-        return Some(clash);
-    }
-    if let Some(clash) = both(c, disk_c, names[2], "--disk-c <DIR>") {
-        return Some(clash);
-    }
-    both(d, disk_d, names[3], "--disk-d <DIR>")
 }
 
 impl SessionWords<'_> {
@@ -84,7 +43,15 @@ impl SessionWords<'_> {
     pub fn clash(&self) -> Option<Clash>
         ensures { texts.names_of result ≡ texts.first_failed (texts.session_checks self.now) }
     {
-        script_clash(self.console, self.typed).or(drives_clash(&self.own, &self.disk, &FILES))
+        let (console, typed) = (self.console, self.typed);
+        let (own, disk) = (self.own, self.disk);
+        first_failed(&[
+            (console, typed, Both("--console <FILE>", "--typed <TEXT>")),
+            (own[0], disk[0], Both("--files <DIR>", "--disk <DIR>")),
+            (own[1], disk[1], Both("--files-b <DIR>", "--disk-b <DIR>")),
+            (own[2], disk[2], Both("--files-c <DIR>", "--disk-c <DIR>")),
+            (own[3], disk[3], Both("--files-d <DIR>", "--disk-d <DIR>")),
+        ])
     }
 }
 
@@ -94,26 +61,23 @@ impl Words<'_> {
         ensures any { is_some result ≡ texts.run_clashes self.now }
         ensures first { texts.names_of result ≡ texts.first_failed (texts.run_checks self.now) }
     {
-        script_clash(self.console, self.typed)
-            .or(self.report_clash())
-            .or(drives_clash(&self.files, &self.disk, &FILES))
-            .or(drives_clash(&self.out, &self.disk, &OUT))
-    }
-
-    // Returns what is wrong with the options for the rule for make and the trace.
-    fn report_clash(&self) -> Option<Clash>
-        ensures { texts.names_of result ≡ texts.first_failed (texts.report_checks self.now) }
-    {
-        if let Some(clash) = both(self.edits, self.deps, "--edits <FILE>", "--deps <FILE>") {
-            return Some(clash);
-        }
-        if let Some(clash) = both(self.edits, self.trace, "--edits <FILE>", "--trace <FILE>") {
-            return Some(clash);
-        }
-        if self.target.is_some() && self.deps.is_none() {
-            return Some(Clash::Missing("--deps <FILE>"));
-        }
-        None
+        let (console, typed) = (self.console, self.typed);
+        let (edits, deps, trace) = (self.edits, self.deps, self.trace);
+        let (own, out, disk) = (self.files, self.out, self.disk);
+        first_failed(&[
+            (console, typed, Both("--console <FILE>", "--typed <TEXT>")),
+            (edits, deps, Both("--edits <FILE>", "--deps <FILE>")),
+            (edits, trace, Both("--edits <FILE>", "--trace <FILE>")),
+            (self.target, deps, Missing("--deps <FILE>")),
+            (own[0], disk[0], Both("--files <DIR>", "--disk <DIR>")),
+            (own[1], disk[1], Both("--files-b <DIR>", "--disk-b <DIR>")),
+            (own[2], disk[2], Both("--files-c <DIR>", "--disk-c <DIR>")),
+            (own[3], disk[3], Both("--files-d <DIR>", "--disk-d <DIR>")),
+            (out[0], disk[0], Both("--out <DIR>", "--disk <DIR>")),
+            (out[1], disk[1], Both("--out-b <DIR>", "--disk-b <DIR>")),
+            (out[2], disk[2], Both("--out-c <DIR>", "--disk-c <DIR>")),
+            (out[3], disk[3], Both("--out-d <DIR>", "--disk-d <DIR>")),
+        ])
     }
 }
 
@@ -124,7 +88,7 @@ impl DependencyWords<'_> {
         ensures first { texts.names_of result ≡ texts.first_failed (texts.dependency_checks self.now) }
     {
         if self.target.is_some() && self.by_step {
-            return Some(Clash::Both("--make <TARGET>", "--by-step"));
+            return Some(Both("--make <TARGET>", "--by-step"));
         }
         self.session.clash()
     }
