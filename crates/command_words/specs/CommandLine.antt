@@ -10,6 +10,9 @@ use Rattle.clap.specs.Words.{App, Row, Rule, Text, first_of, new_app, new_rule, 
 use Rattle.clap.specs.Simple.{on_top}
 use Rattle.clap.specs.declared.builder.action.ArgAction.TheVariants as action
 use Rattle.clap.specs.declared.builder.value_parser.ValueParser.TheVariants as parser
+use Rattle.command_words.specs.declared.options.Choice.{Choice}
+use Rattle.command_words.specs.declared.options.Choice.TheVariants.{Path, Flag, Number, NumberOr}
+use Rattle.command_words.specs.declared.options.Choice.TheVariants as choice
 use Rattle.command_words.specs.declared.words.SessionWords.{SessionWords}
 
 -- An option with one value.
@@ -27,10 +30,6 @@ as_path rule = record rule { parser = Some parser.NonEmptyString }
 abbrev pub path_rule : Text → Rule
 path_rule name = as_path (option_rule name)
 
--- An argument with a default.
-abbrev pub with_default : Rule → Text → Rule
-with_default rule default = record rule { defaults = default ∷ [] }
-
 -- An option whose value is a number within a range, with a default.
 abbrev pub number_rule : Text → ℕ → ℕ → Text → Rule
 number_rule name least most default = record (option_rule name) { parser = Some (parser.Unsigned least most); defaults = default ∷ [] }
@@ -38,6 +37,14 @@ number_rule name least most default = record (option_rule name) { parser = Some 
 -- The same without a default.
 abbrev pub range_rule : Text → ℕ → ℕ → Rule
 range_rule name least most = record (option_rule name) { parser = Some (parser.Unsigned least most) }
+
+-- The rule of an option as the code's tables have it.
+abbrev pub rule_of_choice : Choice → Rule
+rule_of_choice (Path name value help) = path_rule name.now
+rule_of_choice (choice.Text name value help) = option_rule name.now
+rule_of_choice (Flag name help) = flag_rule name.now
+rule_of_choice (Number name least most help) = range_rule name.now least most
+rule_of_choice (NumberOr name least most default help) = number_rule name.now least most default.now
 
 -- A command with arguments added one after the other.
 abbrev pub with_rules : App → List Rule → App
@@ -50,16 +57,12 @@ with_rules app (rule ∷ rules) = with_rules (with_rule app rule) rules
 abbrev pub positional_rules : List Rule
 positional_rules = record (as_path (new_rule (codes "PROGRAM"))) { required = true } ∷ new_rule (codes "TAIL") ∷ []
 
--- The folders and the disks that are read, and the script.
+-- The folders and the disks that are read, and the script: the typed text may be empty.
 abbrev pub input_rules : List Rule
 input_rules =
     path_rule (codes "files") ∷ path_rule (codes "files-b") ∷ path_rule (codes "files-c") ∷ path_rule (codes "files-d")
     ∷ path_rule (codes "disk") ∷ path_rule (codes "disk-b") ∷ path_rule (codes "disk-c") ∷ path_rule (codes "disk-d")
-    ∷ path_rule (codes "console") ∷ []
-
--- The script as typed text, which may be empty.
-abbrev pub typed_rule : Rule
-typed_rule = option_rule (codes "typed")
+    ∷ path_rule (codes "console") ∷ option_rule (codes "typed") ∷ []
 
 -- The limit of steps, whose default depends on the disks.
 abbrev pub limit_rule : Rule
@@ -67,7 +70,7 @@ limit_rule = range_rule (codes "limit") 0 4000000000
 
 -- A command with the program, the tail, and what is read.
 abbrev pub with_input_rules : App → App
-with_input_rules app = with_rule (with_rules (with_rules app positional_rules) input_rules) typed_rule
+with_input_rules app = with_rules (with_rules app positional_rules) input_rules
 
 -- A command without arguments, with a version, whose words begin after its name.
 abbrev pub plain_command : Text → App

@@ -7,21 +7,18 @@ use Rattle.command_words.specs.CommandLine.{limit_rule, number_rule, path_rule, 
 use Rattle.command_words.specs.declared.words.SessionWords.{SessionWords}
 use Rattle.command_words.specs.declared.words.Words.{Words}
 
--- The edit lines, the folders that are written to, the files of the rule for make and of the trace, and the rule's target.
-abbrev pub run_path_rules : List Rule
-run_path_rules =
+-- The edit lines, the folders that are written to, the files of the rule for make and of the trace, and the rule's target; whether
+-- disks are changed whatever the stop, the limit of steps, and how checkpoints are made.
+abbrev pub run_rules : List Rule
+run_rules =
     path_rule (codes "edits")
     ∷ path_rule (codes "out") ∷ path_rule (codes "out-b") ∷ path_rule (codes "out-c") ∷ path_rule (codes "out-d")
-    ∷ path_rule (codes "deps") ∷ path_rule (codes "target") ∷ path_rule (codes "trace") ∷ []
-
--- Whether disks are changed whatever the stop, the limit of steps, and how checkpoints are made.
-abbrev pub run_other_rules : List Rule
-run_other_rules =
-    flag_rule (codes "partial") ∷ limit_rule ∷ number_rule (codes "spacing") 1 1000000000 (codes "10000") ∷ number_rule (codes "slots") 1 4096 (codes "64") ∷ []
+    ∷ path_rule (codes "deps") ∷ path_rule (codes "target") ∷ path_rule (codes "trace")
+    ∷ flag_rule (codes "partial") ∷ limit_rule ∷ number_rule (codes "spacing") 1 1000000000 (codes "10000") ∷ number_rule (codes "slots") 1 4096 (codes "64") ∷ []
 
 -- The command line of `cpmrun` with all its arguments.
 abbrev pub run_line : App
-run_line = with_rules (with_rules (with_input_rules (plain_command (codes "cpmrun"))) run_path_rules) run_other_rules
+run_line = with_rules (with_input_rules (plain_command (codes "cpmrun"))) run_rules
 
 -- The matches that clap returns for the words of `cpmrun`, and the kinds of its errors if it returns none.
 unfoldable pub run_matches : List Text → List Row

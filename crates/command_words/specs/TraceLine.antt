@@ -1,23 +1,22 @@
 -- The command line of `cpmtrace` as a command of clap, and what is read of its matches. (Over clap's own definitions; the words:
 -- this project's own.)
-use Rattle.std.specs.Prelude.{◌≡◌, List, [], ◌∷◌, ◌++◌, codes}
+use Rattle.std.specs.Prelude.{◌≡◌, List, [], ◌∷◌, codes}
 use Rattle.clap.specs.Words.{App, Kinds, Row, Rule, Text, fault_of, first_of, matches_of}
 use Rattle.command_words.specs.CommandLine.{AreSessionWordsOf, IsFlagOf, IsNumberIfAny, flag_rule, limit_rule, option_rule, plain_command}
 use Rattle.command_words.specs.CommandLine.{range_rule, text_of, with_input_rules, with_rules}
 use Rattle.command_words.specs.declared.trace_words.TraceWords.{TraceWords}
 
--- The options that choose steps by an address, by memory and by a file.
-abbrev pub text_filter_rules : List Rule
-text_filter_rules = option_rule (codes "at") ∷ option_rule (codes "writes") ∷ option_rule (codes "reads") ∷ option_rule (codes "file") ∷ []
-
--- The same, with the first and the last step before them, and the largest number of lines after them.
-abbrev pub filter_rules : List Rule
-filter_rules =
-    range_rule (codes "from") 0 4000000000 ∷ range_rule (codes "to") 0 4000000000 ∷ text_filter_rules ++ range_rule (codes "last") 1 4000000000 ∷ []
+-- The limit of steps and the lines for instructions, and the options that choose steps: by the first and the last step, by an
+-- address, by memory and by a file, and the largest number of lines.
+abbrev pub trace_rules : List Rule
+trace_rules =
+    limit_rule ∷ flag_rule (codes "steps") ∷ range_rule (codes "from") 0 4000000000 ∷ range_rule (codes "to") 0 4000000000
+    ∷ option_rule (codes "at") ∷ option_rule (codes "writes") ∷ option_rule (codes "reads") ∷ option_rule (codes "file")
+    ∷ range_rule (codes "last") 1 4000000000 ∷ []
 
 -- The command line of `cpmtrace` with all its arguments.
 abbrev pub trace_line : App
-trace_line = with_rules (with_rules (with_input_rules (plain_command (codes "cpmtrace"))) (limit_rule ∷ flag_rule (codes "steps") ∷ [])) filter_rules
+trace_line = with_rules (with_input_rules (plain_command (codes "cpmtrace"))) trace_rules
 
 -- The matches that clap returns for the words of `cpmtrace`, and the kinds of its errors if it returns none.
 unfoldable pub trace_matches : List Text → List Row

@@ -1,159 +1,187 @@
-ghost use Rattle.std.specs.Prelude.{◌≡◌, false, codes, IfOk, map};
+ghost use Rattle.std.specs.Prelude.{◌≡◌, false, IfOk, map};
 ghost use Rattle.clap.specs.Words.{app_of, rule_of};
-ghost use Rattle.command_words.specs.CommandLine.{flag_rule, limit_rule, number_rule, option_rule, path_rule, plain_command};
-ghost use Rattle.command_words.specs.CommandLine.{positional_rules, range_rule, typed_rule, with_default, with_input_rules, with_rules};
-ghost use Rattle.command_words.specs.RunLine.{run_line, run_other_rules};
+ghost use Rattle.command_words.specs.CommandLine.{option_rule, plain_command, positional_rules, range_rule};
+ghost use Rattle.command_words.specs.CommandLine.{rule_of_choice, with_input_rules, with_rules};
+ghost use Rattle.command_words.specs.RunLine.{run_line};
 ghost use Rattle.command_words.specs.DependencyLine.{dependency_line};
 
 use crate::help::{DEPENDENCY_ABOUT, DEPENDENCY_AFTER_HELP, RUN_ABOUT, RUN_AFTER_HELP, VERSION};
+use crate::options::Choice::{Flag, Number, NumberOr, Path, Text};
 use clap::builder::ValueParser;
-use clap::{Arg, ArgAction, Command, value_parser};
+use clap::{Arg, ArgAction, Command};
 use std::alloc::{AllocError, Global};
 
-/// An option whose value is a text, with the name of the value and the help text.
-pub(crate) struct TextOption<'a> {
-    pub name: &'a str,
-    pub value: &'a str,
-    pub help: &'a str,
+/// An option of a command line: its name, the name of its value or the range with the default, and its help text.
+#[derive(Clone, Copy)]
+pub(crate) enum Choice<'a> {
+    /// The value is a path, which is not empty.
+    Path(&'a str, &'a str, &'a str),
+    /// The value is any text.
+    Text(&'a str, &'a str, &'a str),
+    /// There is no value.
+    Flag(&'a str, &'a str),
+    /// The value is a number from the first to the second.
+    Number(&'a str, u64, u64, &'a str),
+    /// The same with a default.
+    NumberOr(&'a str, u64, u64, &'a str, &'a str),
 }
+
+/// The option for the limit of steps.
+pub(crate) const LIMIT: Choice<'_> = Number(
+    "limit",
+    0,
+    4_000_000_000,
+    "The steps after which a run stops, 0 to 4,000,000,000; raise it if a run ends with `stop Limit` \
+     [default: 1000000; with a disk 4000000000]",
+);
 
 /// The options for the folders of the host files, for the disks and for the script.
-const INPUT_PATHS: &[TextOption<'_>] = &[
-    TextOption {
-        name: "files",
-        value: "DIR",
-        help: "Directory with the host files of drive A [default: no files]",
-    },
-    TextOption {
-        name: "files-b",
-        value: "DIR",
-        help: "The same for drive B",
-    },
-    TextOption {
-        name: "files-c",
-        value: "DIR",
-        help: "The same for drive C",
-    },
-    TextOption {
-        name: "files-d",
-        value: "DIR",
-        help: "The same for drive D",
-    },
-    TextOption {
-        name: "disk",
-        value: "DIR",
-        help: "Directory that is drive A: read as by --files, and changed by a run of cpmrun that stops by WarmBoot",
-    },
-    TextOption {
-        name: "disk-b",
-        value: "DIR",
-        help: "The same for drive B",
-    },
-    TextOption {
-        name: "disk-c",
-        value: "DIR",
-        help: "The same for drive C",
-    },
-    TextOption {
-        name: "disk-d",
-        value: "DIR",
-        help: "The same for drive D",
-    },
-    TextOption {
-        name: "console",
-        value: "FILE",
-        help: "The console input, at most 1,048,576 bytes [default: empty]",
-    },
+const INPUTS: &[Choice<'_>] = &[
+    Path(
+        "files",
+        "DIR",
+        "Directory with the host files of drive A [default: no files]",
+    ),
+    Path("files-b", "DIR", "The same for drive B"),
+    Path("files-c", "DIR", "The same for drive C"),
+    Path("files-d", "DIR", "The same for drive D"),
+    Path(
+        "disk",
+        "DIR",
+        "Directory that is drive A: read as by --files, and changed by a run of cpmrun that stops by WarmBoot",
+    ),
+    Path("disk-b", "DIR", "The same for drive B"),
+    Path("disk-c", "DIR", "The same for drive C"),
+    Path("disk-d", "DIR", "The same for drive D"),
+    Path(
+        "console",
+        "FILE",
+        "The console input, at most 1,048,576 bytes [default: empty]",
+    ),
+    Text(
+        "typed",
+        "TEXT",
+        "The console input as text with \\r, \\n, \\t, \\\\ and \\xHH; a carriage return is added if none ends it",
+    ),
 ];
 
-/// The option for a script as typed text.
-const TYPED: TextOption<'_> = TextOption {
-    name: "typed",
-    value: "TEXT",
-    help: "The console input as text with \\r, \\n, \\t, \\\\ and \\xHH; a carriage return is added if none ends it",
-};
-
-/// The options of `cpmrun` for the edit lines, for the folders of changed files, for the rule for make, and for the trace.
-const RUN_PATHS: &[TextOption<'_>] = &[
-    TextOption {
-        name: "edits",
-        value: "FILE",
-        help: "The edit lines to replay, each answered on standard output [default: one run]",
-    },
-    TextOption {
-        name: "out",
-        value: "DIR",
-        help: "Directory for the changed files of drive A (ignored with --edits) [default: not written]",
-    },
-    TextOption {
-        name: "out-b",
-        value: "DIR",
-        help: "The same for drive B",
-    },
-    TextOption {
-        name: "out-c",
-        value: "DIR",
-        help: "The same for drive C",
-    },
-    TextOption {
-        name: "out-d",
-        value: "DIR",
-        help: "The same for drive D",
-    },
-    TextOption {
-        name: "deps",
-        value: "FILE",
-        help: "File for a rule for make: what is written to DIRs, and what it depends on (not with --edits)",
-    },
-    TextOption {
-        name: "target",
-        value: "NAME",
-        help: "The target of the rule of --deps [default: the files that are written to DIRs]",
-    },
-    TextOption {
-        name: "trace",
-        value: "FILE",
-        help: "File for the calls of this run, as cpmtrace prints them (not with --edits)",
-    },
+/// The options of `cpmrun` for the edit lines, for the folders of changed files, for the rule for make, for the trace, and
+/// for how a run goes.
+const RUN_OPTIONS: &[Choice<'_>] = &[
+    Path(
+        "edits",
+        "FILE",
+        "The edit lines to replay, each answered on standard output [default: one run]",
+    ),
+    Path(
+        "out",
+        "DIR",
+        "Directory for the changed files of drive A (ignored with --edits) [default: not written]",
+    ),
+    Path("out-b", "DIR", "The same for drive B"),
+    Path("out-c", "DIR", "The same for drive C"),
+    Path("out-d", "DIR", "The same for drive D"),
+    Path(
+        "deps",
+        "FILE",
+        "File for a rule for make: what is written to DIRs, and what it depends on (not with --edits)",
+    ),
+    Path(
+        "target",
+        "NAME",
+        "The target of the rule of --deps [default: the files that are written to DIRs]",
+    ),
+    Path(
+        "trace",
+        "FILE",
+        "File for the calls of this run, as cpmtrace prints them (not with --edits)",
+    ),
+    Flag(
+        "partial",
+        "Change the disks whatever the stop, and not only after WarmBoot",
+    ),
+    LIMIT,
+    NumberOr(
+        "spacing",
+        1,
+        1_000_000_000,
+        "10000",
+        "The steps between checkpoints, 1 to 1,000,000,000",
+    ),
+    NumberOr("slots", 1, 4096, "64", "The most checkpoints, 1 to 4,096"),
 ];
 
-/// The option of `cpmdeps` for the target of a rule for make.
-const MAKE: TextOption<'_> = TextOption {
-    name: "make",
-    value: "TARGET",
-    help: "Print a rule for make with this target instead of the listing",
-};
+/// The options of `cpmdeps` for the form of what is printed.
+const DEPENDENCY_OPTIONS: &[Choice<'_>] = &[
+    LIMIT,
+    Flag(
+        "by-step",
+        "Print neighbours that different steps asked for first on separate lines",
+    ),
+    Path(
+        "make",
+        "TARGET",
+        "Print a rule for make with this target instead of the listing",
+    ),
+];
+
+/// Returns the argument for an option.
+fn argument<'a>(alloc: Global, option: &Choice<'a>) -> Arg<'a>
+    ensures rule { rule_of result ≡ rule_of_choice option.now }
+    ensures local { result.global ≡ false }
+{
+    match *option {
+        Path(name, value, help) => {
+            text_argument(alloc, name, value, help).value_parser(ValueParser::NonEmptyString)
+        }
+        Text(name, value, help) => text_argument(alloc, name, value, help),
+        Flag(name, help) => Arg::new(alloc, name)
+            .long(name)
+            .action(ArgAction::SetTrue)
+            .help(help),
+        Number(name, least, most, help) => number_argument(alloc, name, least, most, help),
+        NumberOr(name, least, most, default, help) => {
+            number_argument(alloc, name, least, most, help).default_value(default)
+        }
+    }
+}
 
 /// Returns the argument for an option whose value is any text.
-pub(crate) fn text_argument<'a>(alloc: Global, option: &TextOption<'a>) -> Arg<'a>
-    ensures rule { rule_of result ≡ option_rule option.now.name.now }
+fn text_argument<'a>(alloc: Global, name: &'a str, value: &'a str, help: &'a str) -> Arg<'a>
+    ensures rule { rule_of result ≡ option_rule name.entry.now }
     ensures local { result.global ≡ false }
 {
-    Arg::new(alloc, option.name)
-        .long(option.name)
-        .value_name(option.value)
-        .help(option.help)
+    Arg::new(alloc, name)
+        .long(name)
+        .value_name(value)
+        .help(help)
 }
 
-/// Returns the argument for an option whose value is a path.
-fn path_argument<'a>(alloc: Global, option: &TextOption<'a>) -> Arg<'a>
-    ensures rule { rule_of result ≡ path_rule option.now.name.now }
+/// Returns the argument for an option whose value is a number of this range.
+fn number_argument<'a>(
+    alloc: Global,
+    name: &'a str,
+    least: u64,
+    most: u64,
+    help: &'a str,
+) -> Arg<'a>
+    ensures rule { rule_of result ≡ range_rule name.entry.now least most }
     ensures local { result.global ≡ false }
 {
-    text_argument(alloc, option).value_parser(ValueParser::NonEmptyString)
+    text_argument(alloc, name, "N", help).value_parser(ValueParser::unsigned(least, most))
 }
 
-/// Adds the options whose values are paths to a command.
-fn with_paths<'a>(
+/// Adds options to a command.
+pub(crate) fn with_options<'a>(
     alloc: Global,
     mut command: Command<'a>,
-    options: &[TextOption<'a>],
+    options: &[Choice<'a>],
 ) -> Result<Command<'a>, AllocError>
     ensures { IfOk result (λ c.
-        app_of c ≡ with_rules (app_of command.entry) (map (λ o. path_rule o.name.now) options.now)) }
+        app_of c ≡ with_rules (app_of command.entry) (map rule_of_choice options.now)) }
 {
     for option in options {
-        command = command.arg(path_argument(alloc, option))?;
+        command = command.arg(argument(alloc, option))?;
     }
     Ok(command)
 }
@@ -172,105 +200,6 @@ fn with_positionals<'a>(alloc: Global, command: Command<'a>) -> Result<Command<'
         .arg(Arg::new(alloc, "TAIL").help(
             "The command tail: one word of at most 126 bytes, which may contain blanks [default: empty]",
         ))
-}
-
-/// Returns the option for a script as typed text.
-fn typed_option<'a>(alloc: Global) -> Arg<'a>
-    ensures rule { rule_of result ≡ typed_rule }
-    ensures local { result.global ≡ false }
-{
-    text_argument(alloc, &TYPED)
-}
-
-/// Returns the argument for an option whose value is a number of this range.
-pub(crate) fn range_argument<'a>(alloc: Global, name: &'a str, least: u64, most: u64) -> Arg<'a>
-    ensures rule { rule_of result ≡ range_rule name.entry.now least most }
-    ensures local { result.global ≡ false }
-{
-    Arg::new(alloc, name)
-        .long(name)
-        .value_name("N")
-        .value_parser(ValueParser::unsigned(least, most))
-}
-
-/// Returns the argument for an option whose value is a number, without a check of its value.
-fn number_argument<'a>(alloc: Global, name: &'a str, default: &'a str) -> Arg<'a>
-    ensures rule { rule_of result ≡ with_default (option_rule name.entry.now) default.entry.now }
-    ensures local { result.global ≡ false }
-{
-    Arg::new(alloc, name)
-        .long(name)
-        .value_name("N")
-        .default_value(default)
-}
-
-/// Returns the option for the limit of steps.
-pub(crate) fn limit_option<'a>(alloc: Global) -> Arg<'a>
-    ensures rule { rule_of result ≡ limit_rule }
-    ensures local { result.global ≡ false }
-{
-    range_argument(alloc, "limit", 0, 4_000_000_000).help(
-        "The steps after which a run stops, 0 to 4,000,000,000; raise it if a run ends with `stop Limit` \
-         [default: 1000000; with a disk 4000000000]",
-    )
-}
-
-/// Returns the option for the number of steps from one checkpoint to the next.
-fn spacing_option<'a>(alloc: Global) -> Arg<'a>
-    ensures rule { rule_of result ≡ number_rule (codes "spacing") 1 1000000000 (codes "10000") }
-    ensures local { result.global ≡ false }
-{
-    number_argument(alloc, "spacing", "10000")
-        .value_parser(value_parser!(u64).range(1..=1_000_000_000))
-        .help("The steps between checkpoints, 1 to 1,000,000,000")
-}
-
-/// Returns the option for the largest number of checkpoints.
-fn slots_option<'a>(alloc: Global) -> Arg<'a>
-    ensures rule { rule_of result ≡ number_rule (codes "slots") 1 4096 (codes "64") }
-    ensures local { result.global ≡ false }
-{
-    number_argument(alloc, "slots", "64")
-        .value_parser(value_parser!(u64).range(1..=4096))
-        .help("The most checkpoints, 1 to 4,096")
-}
-
-/// Adds the flag of `cpmrun`, and its options whose values are numbers, to a command.
-fn with_run_options<'a>(alloc: Global, command: Command<'a>) -> Result<Command<'a>, AllocError>
-    ensures { IfOk result (λ c. app_of c ≡ with_rules (app_of command.entry) run_other_rules) }
-{
-    command
-        .arg(flag_argument(
-            alloc,
-            "partial",
-            "Change the disks whatever the stop, and not only after WarmBoot",
-        ))?
-        .arg(limit_option(alloc))?
-        .arg(spacing_option(alloc))?
-        .arg(slots_option(alloc))
-}
-
-/// Returns the argument for an option without a value.
-pub(crate) fn flag_argument<'a>(alloc: Global, name: &'a str, help: &'a str) -> Arg<'a>
-    ensures rule { rule_of result ≡ flag_rule name.entry.now }
-    ensures local { result.global ≡ false }
-{
-    Arg::new(alloc, name)
-        .long(name)
-        .action(ArgAction::SetTrue)
-        .help(help)
-}
-
-/// Returns the flag that gives each step a line of its own.
-fn by_step_flag<'a>(alloc: Global) -> Arg<'a>
-    ensures rule { rule_of result ≡ flag_rule (codes "by-step") }
-    ensures local { result.global ≡ false }
-{
-    flag_argument(
-        alloc,
-        "by-step",
-        "Print neighbours that different steps asked for first on separate lines",
-    )
 }
 
 /// Returns a command without arguments, whose words begin after the program's name.
@@ -296,9 +225,7 @@ pub(crate) fn with_inputs<'a>(
 ) -> Result<Command<'a>, AllocError>
     ensures { IfOk result (λ c. app_of c ≡ with_input_rules (app_of command.entry)) }
 {
-    let command = with_positionals(alloc, command)?;
-    let command = with_paths(alloc, command, INPUT_PATHS)?;
-    command.arg(typed_option(alloc))
+    with_options(alloc, with_positionals(alloc, command)?, INPUTS)
 }
 
 /// Returns the command line of `cpmrun`.
@@ -306,9 +233,7 @@ pub fn run_command<'a>(alloc: Global) -> Result<Command<'a>, AllocError>
     ensures { IfOk result (λ c. app_of c ≡ run_line) }
 {
     let command = plain_command(alloc, "cpmrun", RUN_ABOUT, RUN_AFTER_HELP);
-    let command = with_inputs(alloc, command)?;
-    let command = with_paths(alloc, command, RUN_PATHS)?;
-    with_run_options(alloc, command)
+    with_options(alloc, with_inputs(alloc, command)?, RUN_OPTIONS)
 }
 
 /// Returns the command line of `cpmdeps`.
@@ -316,8 +241,5 @@ pub fn dependency_command<'a>(alloc: Global) -> Result<Command<'a>, AllocError>
     ensures { IfOk result (λ c. app_of c ≡ dependency_line) }
 {
     let command = plain_command(alloc, "cpmdeps", DEPENDENCY_ABOUT, DEPENDENCY_AFTER_HELP);
-    with_inputs(alloc, command)?
-        .arg(limit_option(alloc))?
-        .arg(by_step_flag(alloc))?
-        .arg(path_argument(alloc, &MAKE))
+    with_options(alloc, with_inputs(alloc, command)?, DEPENDENCY_OPTIONS)
 }
