@@ -10,71 +10,42 @@ use Rattle.clap.specs.declared.parser.matches.Found.{Found}
 use Rattle.clap.proofs.OnLiterals.{clap_on_literals}
 use Rattle.clap.proofs.WalkLemmas.{first_value-rows, one_text-rows}
 use Rattle.command_words.specs.CommandLine.{HasNoNumberWithin, IsFlagOf, IsNumberIfAny, IsNumberOf, text_of}
-use Rattle.command_words.specs.RunLine.{run_faults, run_line, run_matches}
-use Rattle.command_words.specs.DependencyLine.{dependency_faults, dependency_line, dependency_matches}
-use Rattle.command_words.specs.TraceLine.{trace_faults, trace_line, trace_matches}
+use Rattle.command_words.specs.RunLine.{run_line}
+use Rattle.command_words.specs.DependencyLine.{dependency_line}
+use Rattle.command_words.specs.TraceLine.{trace_line}
 
-is_simple_run : is_simple run_line ≡ true
+pub is_simple_run : is_simple run_line ≡ true
 unfolding clap_on_literals
 is_simple_run = refl
 
-is_free_run : is_simple_and_free run_line ≡ true
+pub is_free_run : is_simple_and_free run_line ≡ true
 unfolding clap_on_literals
 is_free_run = refl
 
-is_simple_dependency : is_simple dependency_line ≡ true
+pub is_simple_dependency : is_simple dependency_line ≡ true
 unfolding clap_on_literals
 is_simple_dependency = refl
 
-is_free_dependency : is_simple_and_free dependency_line ≡ true
+pub is_free_dependency : is_simple_and_free dependency_line ≡ true
 unfolding clap_on_literals
 is_free_dependency = refl
 
-is_simple_trace : is_simple trace_line ≡ true
+pub is_simple_trace : is_simple trace_line ≡ true
 unfolding clap_on_literals
 is_simple_trace = refl
 
-is_free_trace : is_simple_and_free trace_line ≡ true
+pub is_free_trace : is_simple_and_free trace_line ≡ true
 unfolding clap_on_literals
 is_free_trace = refl
 
 -- The matches of a command equal to a command line are the matches of that command line, and so are the kinds of its errors.
-matches_at : (line a : App) (words : List Text) (rows : List Row) → is_simple line ≡ true → a ≡ line → (is_simple a ≡ true → rows ≡ matches_of a words)
-    → rows ≡ matches_of line words
-matches_at line a words rows simple same h = h (ap is_simple same ∙ simple) ∙ ap (λ x. matches_of x words) same
+pub says_at : {W : Type 0} (Are : List Row → W → Type 0) (line a : App) (words : List Text) (rows : List Row) (w : W) → is_simple line ≡ true → a ≡ line
+    → (is_simple a ≡ true → rows ≡ matches_of a words) → Are rows w → Are (matches_of line words) w
+says_at Are line a words rows w simple same read = subst (λ r. Are r w) (read (ap is_simple same ∙ simple) ∙ ap (λ x. matches_of x words) same)
 
-faults_at : {T : Type 0} (line a : App) (words : List Text) (r : Result T Error) → is_simple_and_free line ≡ true → a ≡ line
+pub faults_at : {T : Type 0} (line a : App) (words : List Text) (r : Result T Error) → is_simple_and_free line ≡ true → a ≡ line
     → (is_simple_and_free a ≡ true → FailsBy (fault_of a words) r) → FailsBy (fault_of line words) r
 faults_at line a words r free same h = subst (λ x. FailsBy (fault_of x words) r) same (h (ap is_simple_and_free same ∙ free))
-
-pub at_run_line : (a : App) (words : List Text) (rows : List Row) → a ≡ run_line → (is_simple a ≡ true → rows ≡ matches_of a words) → rows ≡ run_matches words
-unfolding run_matches
-at_run_line a words rows = matches_at run_line a words rows is_simple_run
-
-pub fails_at_run_line : {T : Type 0} (a : App) (words : List Text) (r : Result T Error) → a ≡ run_line
-    → (is_simple_and_free a ≡ true → FailsBy (fault_of a words) r) → FailsBy (run_faults words) r
-unfolding run_faults
-fails_at_run_line a words r = faults_at run_line a words r is_free_run
-
-pub at_dependency_line : (a : App) (words : List Text) (rows : List Row) → a ≡ dependency_line → (is_simple a ≡ true → rows ≡ matches_of a words)
-    → rows ≡ dependency_matches words
-unfolding dependency_matches
-at_dependency_line a words rows = matches_at dependency_line a words rows is_simple_dependency
-
-pub fails_at_dependency_line : {T : Type 0} (a : App) (words : List Text) (r : Result T Error) → a ≡ dependency_line
-    → (is_simple_and_free a ≡ true → FailsBy (fault_of a words) r) → FailsBy (dependency_faults words) r
-unfolding dependency_faults
-fails_at_dependency_line a words r = faults_at dependency_line a words r is_free_dependency
-
-pub at_trace_line : (a : App) (words : List Text) (rows : List Row) → a ≡ trace_line → (is_simple a ≡ true → rows ≡ matches_of a words)
-    → rows ≡ trace_matches words
-unfolding trace_matches
-at_trace_line a words rows = matches_at trace_line a words rows is_simple_trace
-
-pub fails_at_trace_line : {T : Type 0} (a : App) (words : List Text) (r : Result T Error) → a ≡ trace_line
-    → (is_simple_and_free a ≡ true → FailsBy (fault_of a words) r) → FailsBy (trace_faults words) r
-unfolding trace_faults
-fails_at_trace_line a words r = faults_at trace_line a words r is_free_trace
 
 -- A text that was read is the text of the row.
 pub text_said : (f : Found) (id : Text) (rows : List Row) (r : Option (Bor Text)) → rows_of f ≡ rows → option_map (λ s. s.now) r ≡ first_value f id
@@ -127,10 +98,6 @@ text_or_none (Some s) d t o e empty same = ap (λ s. s.now) e ∙ ap (λ x. unwr
 pub four_texts : (a b c d : Option (Bor Text)) (w x y z : Option Text) → text_of a ≡ w → text_of b ≡ x → text_of c ≡ y → text_of d ≡ z
     → map text_of (a ∷ b ∷ c ∷ d ∷ []) ≡ w ∷ x ∷ y ∷ z ∷ []
 four_texts a b c d w x y z p q r s = cc
-
--- What holds for the rows holds for equal rows.
-pub says_at : {W : Type 0} (Are : List Row → W → Type 0) (rows others : List Row) (words : W) → rows ≡ others → Are rows words → Are others words
-says_at Are rows others words same h = subst (λ r. Are r words) same h
 
 -- A parse that returned matches had no error.
 pub no_fault : {T : Type 0} (faults : Kinds) (r : Result T Error) (x : T) → r ≡ Ok x → FailsBy faults r → faults ≡ []
