@@ -12,5 +12,4 @@ use Rattle.i8080.specs.Attempts.{Attempts}
 
 -- It performs the instruction.
 pub sure_performs : (t : Reading End) (r : Regs) (m : Memory) (ready : ℕ → Bool) (result : Result Did AllocError) (r' : Regs) (m' : Memory) → Attempts true t r m ready result r' m' → Performs t r m ready result r' m'
-sure_performs t r m ready (Ok did) r' m' a = record { did = a.did; regs = a.regs; own = a.own; err_unready = a.err_regs; err_regs = a.err_regs; err_own = a.err_own; looks = a.looks; beneath = a.beneath; lender = a.lender }
-sure_performs t r m ready (Err e) r' m' a = record { did = a.did; regs = a.regs; own = a.own; err_unready = a.err_unready refl; err_regs = a.err_regs; err_own = a.err_own; looks = a.err_looks refl; beneath = a.beneath; lender = a.lender }
+sure_performs t r m ready result r' m' a = a.sure refl

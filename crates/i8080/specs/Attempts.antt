@@ -1,33 +1,40 @@
 -- The results and effects of functions that execute an instruction, or a part of one, over a memory that may refuse a read or a
 -- write. (This project's own.)
-use Rattle.std.specs.Prelude.{ℕ, ◌≡◌, Bool, true, false, List, IfOk, OnOk, OnErr}
+use Rattle.std.specs.Prelude.{ℕ, ◌≡◌, ◌≢◌, Bool, true, false, List, IfOk, OnOk, OnErr}
 use Rattle.std.specs.declared.result.Result.{Result}
 use Rattle.i8080.specs.declared.registers.Regs.{Regs}
 use Rattle.i8080.specs.declared.outcome.Did.{Did}
 use Rattle.i8080.specs.declared.opcode.Op.{Op}
+use Rattle.i8080.specs.declared.access.TheConstants.{HLT}
 use Rattle.i8080.specs.Memory as memory
 use Rattle.i8080.specs.Memory.{bytes, write_all}
 use Rattle.i8080.specs.Reading.{Reading, end_of}
 use Rattle.i8080.specs.End.{End}
 use Rattle.i8080.specs.Opcodes.{decoded}
 use Rattle.i8080.specs.Instruction.{operation, decided}
-use Rattle.i8080.specs.Performs.{looks_after, did_of, regs_after, own_after, writes_of, WritesUnready}
+use Rattle.i8080.specs.Performs.{looks_after, did_of, regs_after, own_after, Executes}
 
--- The result and the effects of a call that executes a tree of reads and its end, unless the memory refuses a read or a write.
--- A sure memory refuses only a write to a cell that was not ready, after all the reads. In a memory that is not sure, a read is
--- no look. On `Err`, the registers and the written bytes are unchanged.
-pub record Attempts {X : Type 0} (sure : Bool) (t : Reading End) (r : Regs) (m : memory.Memory) (ready : ℕ → Bool) (result : Result Did X) (r' : Regs) (m' : memory.Memory) : Type 0 where
+-- An opcode is kept for a cell: HLT says that none is, so a cell with the byte 76H never has one.
+abbrev pub IsKept : ℕ → Type 0
+IsKept opcode = opcode ≢ HLT
+
+-- The result and the effects of a call that executes a tree of reads and its end over a memory that may refuse any read or write and
+-- notes no look: on `Ok` those of the instruction, which looked at nothing new; on `Err` nothing changed.
+pub record Guesses {X : Type 0} (t : Reading End) (r : Regs) (m : memory.Memory) (result : Result Did X) (r' : Regs) (m' : memory.Memory) : Type 0 where
   pub did : IfOk result (λ did. did ≡ did_of (end_of t (bytes m)))
   pub regs : OnOk result (r' ≡ regs_after (end_of t (bytes m)) r)
   pub own : OnOk result (m'.own ≡ own_after (end_of t (bytes m)) m.own)
-  pub looks : OnOk result (m'.looks ≡ looks_after t m)
-  pub err_unready : OnErr result (sure ≡ true → WritesUnready ready (writes_of (end_of t (bytes m))))
-  pub err_looks : OnErr result (sure ≡ true → m'.looks ≡ looks_after t m)
+  pub unlooked : OnOk result (looks_after t m ≡ m.looks)
   pub err_regs : OnErr result (r' ≡ r)
   pub err_own : OnErr result (m'.own ≡ m.own)
-  pub quiet : sure ≡ false → m'.looks ≡ m.looks
+  pub looks : m'.looks ≡ m.looks
   pub beneath : m'.beneath ≡ m.beneath
   pub lender : m'.lender ≡ m.lender
+
+-- The same over either kind of memory: one that is sure refuses only a write to a cell that was not ready.
+pub record Attempts {X : Type 0} (is_sure : Bool) (t : Reading End) (r : Regs) (m : memory.Memory) (ready : ℕ → Bool) (result : Result Did X) (r' : Regs) (m' : memory.Memory) : Type 0 where
+  pub sure : is_sure ≡ true → Executes t r m ready result r' m'
+  pub unsure : is_sure ≡ false → Guesses t r m result r' m'
 
 -- The result and the effects of a call that only reads and returns a value, unless the memory refuses a read.
 pub record MayRead {X : Type 0} {E : Type 0} (sure : Bool) (t : Reading E) (m : memory.Memory) (result : Result E X) (m' : memory.Memory) : Type 0 where

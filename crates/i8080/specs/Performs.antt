@@ -39,9 +39,9 @@ pub record WritesUnready (ready : ℕ → Bool) (writes : List (ℕ × ℕ)) : T
   pub written : is_among cell (map (λ w. w.0) writes) ≡ true
   pub unready : ready cell ≡ false
 
--- The result and the effects of a call that executes a tree of reads and its end. An allocation fails only if the end writes a
+-- The result and the effects of a call that executes a tree of reads and its end. It fails only if the end writes a
 -- cell that was not ready, and only after all the reads.
-pub record Performs (t : Reading End) (r : Regs) (m : Memory) (ready : ℕ → Bool) (result : Result Did AllocError) (r' : Regs) (m' : Memory) : Type 0 where
+pub record Executes {X : Type 0} (t : Reading End) (r : Regs) (m : Memory) (ready : ℕ → Bool) (result : Result Did X) (r' : Regs) (m' : Memory) : Type 0 where
   pub did : IfOk result (λ did. did ≡ did_of (end_of t (bytes m)))
   pub regs : OnOk result (r' ≡ regs_after (end_of t (bytes m)) r)
   pub own : OnOk result (m'.own ≡ own_after (end_of t (bytes m)) m.own)
@@ -51,6 +51,10 @@ pub record Performs (t : Reading End) (r : Regs) (m : Memory) (ready : ℕ → B
   pub looks : m'.looks ≡ looks_after t m
   pub beneath : m'.beneath ≡ m.beneath
   pub lender : m'.lender ≡ m.lender
+
+-- The same where only an allocation can fail.
+abbrev pub Performs : Reading End → Regs → Memory → (ℕ → Bool) → Result Did AllocError → Regs → Memory → Type 0
+Performs = Executes
 
 -- The result and the effects of a call that only reads and returns a value.
 pub record Reads {E : Type 0} (t : Reading E) (m : Memory) (result : E) (m' : Memory) : Type 0 where

@@ -3,8 +3,7 @@ ghost use Rattle.i8080.specs.Memory.{Memory, bytes, look, write};
 ghost use Rattle.i8080.specs.Reading.{Cell, Done};
 ghost use Rattle.i8080.specs.Instruction.{word_at};
 ghost use Rattle.i8080.specs.Performs.{KeepsReady};
-ghost use Rattle.i8080.specs.Attempts.{MayRead};
-ghost use Rattle.i8080.specs.declared.access.TheConstants.{HLT};
+ghost use Rattle.i8080.specs.Attempts.{IsKept, MayRead};
 
 use crate::bus::{Bus, fetch_word};
 use crate::registers::word_of;
@@ -60,10 +59,10 @@ pub trait Access {
     /// Returns the byte of a cell as an opcode, or HLT if the memory does not keep it as one. This is no look. A memory that keeps
     /// opcodes a second time can return them faster than it reads.
     fn opcode(&self, a: u16) -> u8
-        ensures value { (result ≡ HLT → ⊥) → result ≡ bytes (memory self.now) a }
-        ensures unlooked { (result ≡ HLT → ⊥)
+        ensures value { IsKept result → result ≡ bytes (memory self.now) a }
+        ensures unlooked { IsKept result
             → look (memory self.now).own (memory self.now).looks a ≡ (memory self.now).looks }
-        ensures low { (result ≡ HLT → ⊥) → a < opcode_limit };
+        ensures low { IsKept result → a < opcode_limit };
 
     /// Reads the word at an address, with its low byte in the addressed cell and its high byte in the next one. The cell after
     /// 0FFFFH is 0000H.

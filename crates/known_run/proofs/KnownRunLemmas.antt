@@ -15,7 +15,7 @@ use Rattle.i8080.specs.Instruction.{instruction, decided}
 use Rattle.i8080.specs.Opcodes.{decoded, opcode_of}
 use Rattle.i8080.proofs.Decoding.{decoded_some}
 use Rattle.i8080.specs.Performs.{did_of, regs_after, own_after}
-use Rattle.i8080.specs.Attempts.{Attempts, Tries, TriesByte}
+use Rattle.i8080.specs.Attempts.{Guesses, Tries, TriesByte}
 use Rattle.known_run.specs.KnownRun.{GoesOn, RunsKnown}
 
 -- Two memories with the same parts are one.
@@ -24,15 +24,15 @@ same_parts m m' o b k l =
     let made : Own → (ℕ → ℕ) → Looks → Option GName → Memory = λ o b k l. record { own = o; beneath = b; looks = k; lender = l } in
     ap (λ x. made x m'.beneath m'.looks m'.lender) o ∙ ap (λ x. made m.own x m'.looks m'.lender) b ∙ ap (λ x. made m.own m.beneath x m'.lender) k ∙ ap (λ x. made m.own m.beneath m.looks x) l
 
-pub goes_on : {X : Type 0} (sure : Bool) (r : Regs) (m : Memory) (ready : ℕ → Bool) (r' : Regs) (m' : Memory) → sure ≡ false → Attempts {X = X} sure (instruction r) r m ready (Ok did.Went) r' m' → GoesOn r m r' m'
-goes_on sure r m ready r' m' e a = record {
-  performs = λ any. record { did = a.did; regs = a.regs; own = a.own; err_unready = a.err_regs; err_regs = a.err_regs; err_own = a.err_own; looks = a.looks; beneath = a.beneath; lender = a.lender };
-  quiet = a.quiet e;
+pub goes_on : {X : Type 0} (r : Regs) (m : Memory) (r' : Regs) (m' : Memory) → Guesses {X = X} (instruction r) r m (Ok did.Went) r' m' → GoesOn r m r' m'
+goes_on r m r' m' g = record {
+  performs = λ any. record { did = g.did; regs = g.regs; own = g.own; err_unready = tt; err_regs = tt; err_own = tt; looks = g.looks ∙ sym g.unlooked; beneath = g.beneath; lender = g.lender };
+  quiet = g.looks;
 }
 
 -- A refusal changes nothing, nor do HLT and an undefined byte.
-pub same_after_refusal : {X : Type 0} (sure : Bool) (t : Reading End) (r : Regs) (m : Memory) (ready : ℕ → Bool) (x : X) (r' : Regs) (m' : Memory) → sure ≡ false → Attempts sure t r m ready (Err x) r' m' → (r' ≡ r) × (m' ≡ m)
-same_after_refusal sure t r m ready x r' m' e a = (a.err_regs, same_parts m m' a.err_own a.beneath (a.quiet e) a.lender)
+pub same_after_refusal : {X : Type 0} (t : Reading End) (r : Regs) (m : Memory) (x : X) (r' : Regs) (m' : Memory) → Guesses t r m (Err x) r' m' → (r' ≡ r) × (m' ≡ m)
+same_after_refusal t r m x r' m' g = (g.err_regs, same_parts m m' g.err_own g.beneath g.looks g.lender)
 
 end_of_halt : (e : End) (r : Regs) (own : Own) → did.Halt ≡ did_of e → (regs_after e r ≡ r) × (own_after e own ≡ own)
 end_of_halt (Went x w) r own h = let no : did.Halt ≡ did.Went = h in cc
@@ -44,11 +44,11 @@ end_of_undefined (Went x w) r own byte h = let no : did.Undefined byte ≡ did.W
 end_of_undefined Halt r own byte h = (refl, refl)
 end_of_undefined (Undefined b) r own byte h = (refl, refl)
 
-pub same_after_halt : {X : Type 0} (sure : Bool) (t : Reading End) (r : Regs) (m : Memory) (ready : ℕ → Bool) (r' : Regs) (m' : Memory) → sure ≡ false → Attempts {X = X} sure t r m ready (Ok did.Halt) r' m' → (r' ≡ r) × (m' ≡ m)
-same_after_halt sure t r m ready r' m' e a = let h = end_of_halt (end_of t (bytes m)) r m.own a.did in (a.regs ∙ h.0, same_parts m m' (a.own ∙ h.1) a.beneath (a.quiet e) a.lender)
+pub same_after_halt : {X : Type 0} (t : Reading End) (r : Regs) (m : Memory) (r' : Regs) (m' : Memory) → Guesses {X = X} t r m (Ok did.Halt) r' m' → (r' ≡ r) × (m' ≡ m)
+same_after_halt t r m r' m' g = let h = end_of_halt (end_of t (bytes m)) r m.own g.did in (g.regs ∙ h.0, same_parts m m' (g.own ∙ h.1) g.beneath g.looks g.lender)
 
-pub same_after_undefined : {X : Type 0} (sure : Bool) (t : Reading End) (r : Regs) (m : Memory) (ready : ℕ → Bool) (byte : ℕ) (r' : Regs) (m' : Memory) → sure ≡ false → Attempts {X = X} sure t r m ready (Ok (did.Undefined byte)) r' m' → (r' ≡ r) × (m' ≡ m)
-same_after_undefined sure t r m ready byte r' m' e a = let h = end_of_undefined (end_of t (bytes m)) r m.own byte a.did in (a.regs ∙ h.0, same_parts m m' (a.own ∙ h.1) a.beneath (a.quiet e) a.lender)
+pub same_after_undefined : {X : Type 0} (t : Reading End) (r : Regs) (m : Memory) (byte : ℕ) (r' : Regs) (m' : Memory) → Guesses {X = X} t r m (Ok (did.Undefined byte)) r' m' → (r' ≡ r) × (m' ≡ m)
+same_after_undefined t r m byte r' m' g = let h = end_of_undefined (end_of t (bytes m)) r m.own byte g.did in (g.regs ∙ h.0, same_parts m m' (g.own ∙ h.1) g.beneath g.looks g.lender)
 
 module _ {M : Type 0} (memory : M → Memory) (limit n : ℕ) (r : Regs) (m : M) (x : Regs) (y : M) (r' : Regs) (m' : M) where
   -- One more instruction.
@@ -71,34 +71,19 @@ runs_on memory limit n (suc k) r m x y r' m' ran on =
 -- ---- an instruction, by its opcode
 
 -- The instruction of the opcode at PC is the instruction at PC.
-module _ {X : Type 0} (r : Regs) (m : Memory) (ready : ℕ → Bool) (r' : Regs) (m' : Memory) (quiet : look m.own m.looks r.pc ≡ m.looks) where
-  pub at_pc : (result : Result Did X) → TriesByte false (bytes m r.pc) r m ready result r' m' → Attempts false (instruction r) r m ready result r' m'
+module _ {X : Type 0} (r : Regs) (m : Memory) (r' : Regs) (m' : Memory) (quiet : look m.own m.looks r.pc ≡ m.looks) where
+  pub at_pc : Guesses {X = X} (decided (bytes m r.pc) (decoded (bytes m r.pc)) r) r m (Ok did.Went) r' m' → Guesses {X = X} (instruction r) r m (Ok did.Went) r' m'
   unfolding instruction
-  at_pc (Ok did) a = record {
-    did = a.did;
-    regs = a.regs;
-    own = a.own;
-    looks = a.looks ∙ ap (look_all m.own (asked (decided (bytes m r.pc) (decoded (bytes m r.pc)) r) (bytes m))) (sym quiet);
-    err_unready = tt;
-    err_looks = tt;
+  at_pc g = record {
+    did = g.did;
+    regs = g.regs;
+    own = g.own;
+    unlooked = ap (look_all m.own (asked (decided (bytes m r.pc) (decoded (bytes m r.pc)) r) (bytes m))) quiet ∙ g.unlooked;
     err_regs = tt;
     err_own = tt;
-    quiet = a.quiet;
-    beneath = a.beneath;
-    lender = a.lender;
-  }
-  at_pc (Err e) a = record {
-    did = tt;
-    regs = tt;
-    own = tt;
-    looks = tt;
-    err_unready = λ no. absurd (let never : ⊥ = cc in never);
-    err_looks = λ no. absurd (let never : ⊥ = cc in never);
-    err_regs = a.err_regs;
-    err_own = a.err_own;
-    quiet = a.quiet;
-    beneath = a.beneath;
-    lender = a.lender;
+    looks = g.looks;
+    beneath = g.beneath;
+    lender = g.lender;
   }
 
 -- What an arm of the dispatch does for its byte, if it executes the instruction with this opcode.
@@ -119,23 +104,23 @@ at_most false k e = omega (arith, e)
 halts : {X : Type 0} (byte : ℕ) (r : Regs) (m : Memory) (ready : ℕ → Bool) (r' : Regs) (m' : Memory) → byte ≡ 118 → TriesByte {X = X} false byte r m ready (Ok did.Went) r' m' → ⊥
 halts byte r m ready r' m' e a =
     let decodes : decoded byte ≡ Some Hlt = decoded_some Hlt byte (sym e) in
-    let no : did.Went ≡ did.Halt = a.did ∙ ap (λ op. did_of (end_of (decided byte op r) (bytes m))) decodes in
+    let no : did.Went ≡ did.Halt = (a.unsure refl).did ∙ ap (λ op. did_of (end_of (decided byte op r) (bytes m))) decodes in
     let never : ⊥ = cc in never
 
 -- After an instruction that went, and after one that did not. The byte is the opcode at PC, or HLT in its place.
 module _ {X : Type 0} {M : Type 0} (memory : M → Memory) (limit n : ℕ) (r : Regs) (m : M) (x : Regs) (y : M) (r' : Regs) (m' : M) (ran : RunsKnown memory limit n r m x y) (ready : ℕ → Bool) (byte : ℕ) where
   stays : (result : Result Did X) → (result ≡ Ok did.Went → ⊥) → TriesByte false byte x (memory y) ready result r' (memory m') → (r' ≡ x) × (memory m' ≡ memory y)
   stays (Ok did.Went) apart a = absurd (apart refl)
-  stays (Ok did.Halt) apart a = same_after_halt false (decided byte (decoded byte) x) x (memory y) ready r' (memory m') refl a
-  stays (Ok (did.Undefined other)) apart a = same_after_undefined false (decided byte (decoded byte) x) x (memory y) ready other r' (memory m') refl a
-  stays (Err e) apart a = same_after_refusal false (decided byte (decoded byte) x) x (memory y) ready e r' (memory m') refl a
+  stays (Ok did.Halt) apart a = same_after_halt (decided byte (decoded byte) x) x (memory y) r' (memory m') (a.unsure refl)
+  stays (Ok (did.Undefined other)) apart a = same_after_undefined (decided byte (decoded byte) x) x (memory y) other r' (memory m') (a.unsure refl)
+  stays (Err e) apart a = same_after_refusal (decided byte (decoded byte) x) x (memory y) e r' (memory m') (a.unsure refl)
 
   went_on : ((byte ≡ 118 → ⊥) → byte ≡ bytes (memory y) x.pc) → ((byte ≡ 118 → ⊥) → look (memory y).own (memory y).looks x.pc ≡ (memory y).looks) → ((byte ≡ 118 → ⊥) → x.pc < limit)
       → TriesByte {X = X} false byte x (memory y) ready (Ok did.Went) r' (memory m') → RunsKnown memory limit (n + 1) r m r' m'
   went_on value unlooked low a =
       let some : byte ≡ 118 → ⊥ = λ e. halts byte x (memory y) ready r' (memory m') e a in
       let here = subst (λ (b : ℕ). TriesByte {X = X} false b x (memory y) ready (Ok did.Went) r' (memory m')) (value some) a in
-      runs_one_more memory limit n r m x y r' m' ran (low some) (goes_on false x (memory y) ready r' (memory m') refl (at_pc x (memory y) ready r' (memory m') (unlooked some) (Ok did.Went) here))
+      runs_one_more memory limit n r m x y r' m' ran (low some) (goes_on x (memory y) r' (memory m') (at_pc x (memory y) r' (memory m') (unlooked some) (here.unsure refl)))
 
   pub next : (went : Bool) (k : ℕ) (result : Result Did X) → k ≡ cond went 1 0 → (went ≡ true → result ≡ Ok did.Went) → (went ≡ false → result ≡ Ok did.Went → ⊥)
       → ((byte ≡ 118 → ⊥) → byte ≡ bytes (memory y) x.pc) → ((byte ≡ 118 → ⊥) → look (memory y).own (memory y).looks x.pc ≡ (memory y).looks) → ((byte ≡ 118 → ⊥) → x.pc < limit)

@@ -555,8 +555,8 @@ fn run_rare<M: Access>(regs: &mut Regs, bus: &mut M, steps: u64) -> u64
     }
 }
 
-/// Executes at most `steps` instructions, up to the first that the memory refuses, HLT or an undefined byte. Returns the number of
-/// executed instructions.
+/// Executes at most `steps` instructions, up to the first whose opcode the memory does not keep, that it refuses, or that is an
+/// undefined byte; the opcode of HLT is never kept. Returns the number of executed instructions.
 ///
 /// The loop contains the code of every instruction and calls nothing.
 #[inline(always)]

@@ -132,11 +132,11 @@ at_first s from view at bound = record {
 module _ (s : Session) (from end n : ℕ) (looked : AllLooks) (old new : StateView) (high : n < end) (here : Arrives s from n looked old) where
   -- More steps over known cells.
   pub arrives : (k : ℕ) → RunsQuietly k old new → Arrives s from (n + k) looked new
-  arrives k ran = record {
+  arrives k ran = let goes = ran.goes s n (record { bound = here.bound; at = here.at }) in record {
     low = let low = here.low in omega (arith, low);
-    at = ran.at s here.bound n here.at;
+    at = goes.at;
     same = subst (λ (l : AllLooks). LooksAlike looked l) (sym ran.looked) here.same;
-    quiet = quiet_on s from end n n looked old new here.low high here.same here.quiet (n + k) (ran.quiet s here.bound n here.at);
+    quiet = quiet_on s from end n n looked old new here.low high here.same here.quiet (n + k) goes.quiet;
     bound = ran.beneath ∙ here.bound;
   }
 

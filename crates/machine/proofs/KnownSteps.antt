@@ -82,9 +82,7 @@ module _ (s : Session) (d : DeskAndFiles) where
 
 pub runs_quietly : (d : DeskAndFiles) (n : ℕ) (r : Regs) (o : Overlay) (r' : Regs) (o' : Overlay) → RunsOver n r o r' o' → RunsQuietly n (view_with r d o) (view_with r' d o')
 runs_quietly d n r o r' o' ran = record {
-  at = λ s image from at. (leads s d n r o r' o' ran image from at).0;
-  quiet = λ s image from at. (leads s d n r o r' o' ran image from at).1;
-  calls = λ s image from at. (leads s d n r o r' o' ran image from at).2;
+  goes = λ s from start. let led = leads s d n r o r' o' ran start.bound from start.at in record { at = led.0; quiet = led.1; calls = led.2 };
   looked = ap (with_cells d) (same_looks n r o r' o' ran);
   beneath = same_image n r o r' o' ran;
 }

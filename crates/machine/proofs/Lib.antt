@@ -1,5 +1,6 @@
 pub mod WrittenCellLemmas
 pub mod HostLemmas
+pub mod InstructionCells
 pub mod TakeLemmas
 pub mod FitLemmas
 pub mod StepLemmas

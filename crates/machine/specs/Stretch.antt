@@ -36,12 +36,21 @@ pub record RunsStretch (s : Session) (from end : ℕ) (looked : AllLooks) (n : �
 abbrev pub CallsNothing : Answers → ℕ → ℕ → Type 0
 CallsNothing f from upto = (i : ℕ) (st : PartialState) → from ≤ i → i < upto → after f i ≡ Some st → st.core.regs.pc ≢ 0xfe06
 
--- n steps led from one state to another, whatever the step of the first, in each session whose image the known cells belong to; none
--- of them looked at anything new, and none is a call.
+-- A state is that of a session after `from` steps, and its known cells belong to the session's image.
+pub record StartsIn (s : Session) (from : ℕ) (start : StateView) : Type 0 where
+  pub bound : IsBound s start
+  pub at : after (session_answers s) from ≡ Some start.state
+
+-- n steps of a session from `from` on led to a state; none of them looked at anything but what these looks contain, and none is a call.
+pub record GoesQuietly (s : Session) (from n : ℕ) (looked : AllLooks) (new : PartialState) : Type 0 where
+  pub at : after (session_answers s) (from + n) ≡ Some new
+  pub quiet : LooksAtNothingNew (session_answers s) looked from (from + n)
+  pub calls : CallsNothing (session_answers s) from (from + n)
+
+-- n steps led from one state to another, in each session and at each step that starts in the first; none of them looked at anything
+-- new, and none is a call.
 pub record RunsQuietly (n : ℕ) (old new : StateView) : Type 0 where
-  pub at : (s : Session) → IsBound s old → (from : ℕ) → after (session_answers s) from ≡ Some old.state → after (session_answers s) (from + n) ≡ Some new.state
-  pub quiet : (s : Session) → IsBound s old → (from : ℕ) → after (session_answers s) from ≡ Some old.state → LooksAtNothingNew (session_answers s) old.looked from (from + n)
-  pub calls : (s : Session) → IsBound s old → (from : ℕ) → after (session_answers s) from ≡ Some old.state → CallsNothing (session_answers s) from (from + n)
+  pub goes : (s : Session) (from : ℕ) → StartsIn s from old → GoesQuietly s from n old.looked new.state
   pub looked : new.looked ≡ old.looked
   pub beneath : image_beneath new ≡ image_beneath old
 

@@ -36,7 +36,7 @@ pub use console_calls::{Cause, Desk, Spot};
 pub use first_looks::Question;
 pub use hostfiles::{Changes, HostFile, HostFiles, Journal, Name};
 pub use i8080::Regs;
-pub use laws::plain_machine_is_laid;
+pub use laws::{instruction_cells, plain_machine_is_laid};
 pub use meter::Meter;
 pub use noting::Noting;
 pub use pagemem::BlankMarks;

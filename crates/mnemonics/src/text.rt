@@ -107,7 +107,7 @@ fn push_first_digits<const N: usize>(text: &mut ArrayString<N>, byte: u8)
 }
 
 /// Appends a byte as a number.
-fn push_byte<const N: usize>(text: &mut ArrayString<N>, byte: u8)
+fn push_literal<const N: usize>(text: &mut ArrayString<N>, byte: u8)
     requires { array_string_len text.old + 4 ≤ N }
     ensures number { text.new.bytes ≡ text.old.bytes ++ spec.byte_text byte }
     ensures len { array_string_len text.new ≤ array_string_len text.old + 4 }
@@ -141,10 +141,10 @@ pub fn push_instruction<const N: usize>(
 {
     text.push_str(entry(&OPENINGS, opcode));
     match decode(opcode) {
-        None => push_byte(text, opcode),
+        None => push_literal(text, opcode),
         Some(op) => match operand_count(op) {
             0 => {}
-            1 => push_byte(text, second),
+            1 => push_literal(text, second),
             _ => push_word(text, second, third),
         },
     }

@@ -1,6 +1,7 @@
 ghost use Rattle.std.specs.Prelude.{◌≡◌, ◌==◌, ◌+◌, ◌*◌, ◌<◌, ◌≤◌, ◌⊎◌, ℕ, true, false, if◌then◌else◌, IfOk, IfSome, length, vec_len, slice_index, get_or};
 ghost use Rattle.pagemem.specs.Learned.{IsLearned};
 ghost use Rattle.i8080.specs.Registers.{word};
+ghost use Rattle.i8080.specs.Attempts.{IsKept};
 ghost use Rattle.i8080.specs.declared.access.TheConstants.{HLT};
 
 use crate::looks::{CELLS, blank_marks};
@@ -28,7 +29,7 @@ pub struct Known {
     ghost all_bytes: { vec_len bytes ≡ 65537 },
     ghost all_opcodes: { vec_len opcodes ≡ 65536 },
     ghost end: { get_or marks.items 65536 false ≡ false },
-    ghost learned: { (q : ℕ) → (get_or opcodes.items q HLT ≡ HLT → ⊥)
+    ghost learned: { (q : ℕ) → IsKept (get_or opcodes.items q HLT)
         → IsLearned (get_or marks.items q false) (slice_index bytes.items q) q
         (get_or opcodes.items q HLT) },
 }
@@ -110,9 +111,9 @@ impl Known {
     #[inline(always)]
     pub fn opcode(&self, a: u16) -> u8
         ensures kept { result ≡ opcode_in self.now a }
-        ensures known { (result ≡ HLT → ⊥) → is_known self.now a ≡ true }
-        ensures byte { (result ≡ HLT → ⊥) → result ≡ byte_in self.now a }
-        ensures low { (result ≡ HLT → ⊥) → a < 65024 }
+        ensures known { IsKept result → is_known self.now a ≡ true }
+        ensures byte { IsKept result → result ≡ byte_in self.now a }
+        ensures low { IsKept result → a < 65024 }
     {
         self.opcodes[a as usize]
     }

@@ -4,7 +4,7 @@ ghost use Rattle.i8080.specs.End.{cells_from};
 ghost use Rattle.i8080.specs.Memory.{bytes, look, write, write_all, is_among, over};
 ghost use Rattle.i8080.specs.Registers.{onward, word};
 ghost use Rattle.pagemem.specs.Cells.{own_in, is_ready_in};
-ghost use Rattle.i8080.specs.declared.access.TheConstants.{HLT};
+ghost use Rattle.i8080.specs.Attempts.{IsKept};
 ghost use Rattle.pagemem.specs.Known.{is_known, byte_in, opcode_in, IsKnownCell};
 ghost use Rattle.pagemem.specs.Beneath.{cells_beneath};
 
@@ -202,10 +202,10 @@ impl Overlay {
     #[inline(always)]
     pub fn learned_opcode(&self, a: u16) -> u8
         ensures kept { result ≡ opcode_in self.now.known a }
-        ensures value { (result ≡ HLT → ⊥) → result ≡ over (own_of self.now) (beneath_of self.now) a }
-        ensures unlooked { (result ≡ HLT → ⊥)
+        ensures value { IsKept result → result ≡ over (own_of self.now) (beneath_of self.now) a }
+        ensures unlooked { IsKept result
             → look (own_of self.now) (looks_of self.now) a ≡ looks_of self.now }
-        ensures low { (result ≡ HLT → ⊥) → a < 65024 }
+        ensures low { IsKept result → a < 65024 }
     {
         self.known.opcode(a)
     }

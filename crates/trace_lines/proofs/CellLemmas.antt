@@ -1,27 +1,19 @@
 -- The cells that an instruction writes and reads are those of its operation.
 use Rattle.std.proofs.Common.{◌≡◌, ℕ, suc, ◌+◌, true, ◌∷◌, ◌++◌, map, Option, Some, None, refl, sym, ap, ◌∙◌, arith, ◌<◌, subst}
-use Rattle.std.proofs.lemmas.Bool.{ne_eqb, lt-leb, ltb-true}
-use Rattle.std.proofs.lemmas.List.{append-nil}
-use Rattle.interaction_trees.specs.Tree.{Return, questions_of, result_of}
+use Rattle.std.proofs.lemmas.Bool.{ltb-true}
 use Rattle.i8080.specs.declared.opcode.Op.{Op}
 use Rattle.i8080.specs.declared.registers.Regs.{Regs}
-use Rattle.i8080.specs.End as end
 use Rattle.i8080.specs.Instruction.{decided, instruction, operation}
 use Rattle.i8080.specs.Opcodes.{decoded}
 use Rattle.i8080.specs.Performs.{writes_of}
 use Rattle.i8080.specs.Reading.{asked, end_of}
 use Rattle.i8080.specs.Registers.{onward, word}
-use Rattle.console_calls.specs.declared.desk.Spot.{Spot}
-use Rattle.console_calls.specs.StateQuestions.{addresses}
-use Rattle.bdos.specs.PerformsSystemCall.{SystemPath, state_questions}
-use Rattle.bdos.specs.SystemQuestions.{SystemAnswers, SystemTree, bind_reading}
-use Rattle.bdos.proofs.Trees.{path-reading}
-use Rattle.machine.specs.Inputs.{Core, Session}
+use Rattle.machine.proofs.InstructionCells.{cells_of_reads, cells_of_writes}
+use Rattle.machine.specs.Inputs.{Session}
 use Rattle.machine.specs.PlainState.{PlainState}
 use Rattle.machine.specs.Runs.{RunView, state_of}
-use Rattle.machine.specs.Step.{StepEnd, next, step_end_of}
 use Rattle.mnemonics.specs.Mnemonics.{byte_count, operand_count}
-use Rattle.trials.specs.Accesses.{answers_in, cells_of_end, read_cells, written_cells}
+use Rattle.machine.specs.Accesses.{read_cells, written_cells}
 use Rattle.trace_lines.specs.Codes.{IsCodeAt}
 use Rattle.trace_lines.specs.Rows.{operand_in, row}
 use Rattle.trace_lines.specs.StepLines.{cell_in, first_byte, is_instruction}
@@ -29,38 +21,14 @@ use Rattle.trace_lines.specs.declared.step_lines.Code.{Code}
 
 -- ---- the step of an instruction
 
-abbrev ending : Spot → end.End → SystemTree StepEnd
-ending spot e = Return (step_end_of spot e)
-
-at_instruction : (c : Core) → c.regs.pc < 0xfe00 → next c ≡ bind_reading (instruction c.regs) (ending c.desk.spot)
-unfolding next
-at_instruction c low = rw (ne_eqb c.regs.pc 0xff03 (omega arith), ne_eqb c.regs.pc 0xfe06 (omega arith), lt-leb 0xfe00 c.regs.pc low) refl
-
-cells_written : (spot : Spot) (e : end.End) → cells_of_end (step_end_of spot e) ≡ map (λ c. c.0) (writes_of e)
-cells_written spot (end.Went r writes) = refl
-cells_written spot end.Halt = refl
-cells_written spot (end.Undefined byte) = refl
-
 module _ (s : Session) (w : PlainState) (is : is_instruction w ≡ true) where
-  abbrev answered : SystemAnswers
-  answered = answers_in s w
-
-  low : w.core.regs.pc < 0xfe00
-  low = ltb-true w.core.regs.pc 0xfe00 is
-
   written_is : written_cells s w ≡ map (λ c. c.0) (writes_of (end_of (decided (first_byte w) (decoded (first_byte w)) w.core.regs) (cell_in w)))
   unfolding instruction
-  written_is =
-      ap (λ t. cells_of_end (result_of answered t)) (at_instruction w.core low)
-      ∙ ap (λ (p : SystemPath StepEnd). cells_of_end p.end) (path-reading answered (ending w.core.desk.spot) (instruction w.core.regs))
-      ∙ cells_written w.core.desk.spot _
+  written_is = cells_of_writes s w (ltb-true w.core.regs.pc 0xfe00 is)
 
   read_is : read_cells s w ≡ w.core.regs.pc ∷ asked (decided (first_byte w) (decoded (first_byte w)) w.core.regs) (cell_in w)
   unfolding instruction
-  read_is =
-      ap (λ t. addresses (state_questions (questions_of answered t))) (at_instruction w.core low)
-      ∙ ap (λ (p : SystemPath StepEnd). p.cells) (path-reading answered (ending w.core.desk.spot) (instruction w.core.regs))
-      ∙ append-nil _
+  read_is = cells_of_reads s w (ltb-true w.core.regs.pc 0xfe00 is)
 
 -- ---- by the code that was read
 

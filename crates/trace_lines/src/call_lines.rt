@@ -7,7 +7,7 @@ ghost use Rattle.trace_lines.specs.CallForms.{argument_of, returned_of};
 ghost use Rattle.trace_lines.specs.CallLines.{argument_text, block_in, block_text, call_start, count_text, drive_in, file_text, printed_text, record_text, returned_text, whole_place_of};
 ghost use Rattle.trace_lines.specs.Texts.{name_text};
 
-use crate::escapes::push_escaped;
+use crate::escapes::push_quoted;
 use crate::file_texts::{key_on, push_name};
 use crate::forms::{Argument, Returned, argument_of, call_name, is_read, returned_of};
 use filenames::Fcb;
@@ -182,7 +182,7 @@ fn push_printed<X: Text>(text: &mut X, bytes: &[u8])
         return;
     }
     text.push(b" \"");
-    push_escaped(text, first_bytes(bytes));
+    push_quoted(text, first_bytes(bytes));
     text.push(b"\"");
     push_count(text, bytes.len())
 }

@@ -25,7 +25,7 @@ fn push_escaped_byte<X: Text>(text: &mut X, byte: u8)
 }
 
 /// Appends a text with escapes.
-pub fn push_escaped<X: Text>(text: &mut X, bytes: &[u8])
+pub fn push_quoted<X: Text>(text: &mut X, bytes: &[u8])
     ensures { X.pushed text.new ≡ more (X.pushed text.old) (escaped bytes.now) }
 {
     for byte in bytes {

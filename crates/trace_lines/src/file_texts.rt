@@ -6,7 +6,7 @@ ghost use Rattle.filenames.specs.Names.{is_blank, type_text};
 ghost use Rattle.streams.specs.Pushing.{more};
 ghost use Rattle.trace_lines.specs.Texts.{drive_part, escaped, is_plain, is_plain_field, is_plain_name, name_text};
 
-use crate::escapes::push_escaped;
+use crate::escapes::push_quoted;
 use filenames::{Key, find_byte};
 use report_lines::push_key;
 use streams::Text;
@@ -89,7 +89,7 @@ fn push_type<X: Text>(text: &mut X, kind: &[u8])
         return;
     }
     text.push(b".");
-    push_escaped(text, kind)
+    push_quoted(text, kind)
 }
 
 /// Appends a file by its key.
@@ -100,6 +100,6 @@ pub fn push_name<X: Text>(text: &mut X, key: &Key)
         return push_key(text, key);
     }
     text.push(drive_part(key[0]).as_bytes());
-    push_escaped(text, split_at_blank(&key[1..9]).0);
+    push_quoted(text, split_at_blank(&key[1..9]).0);
     push_type(text, split_at_blank(&key[9..12]).0)
 }

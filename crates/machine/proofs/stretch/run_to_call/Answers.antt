@@ -13,8 +13,9 @@ returns-then-n-end-clause-runs c =
     let new = c.run_quietly-n.new.state in
     let within = c.run_quietly-n.ensures.within in
     let start = c.loop-n.invariant in
-    let at = c.run_quietly-n.ensures.runs.at s start.bound c.loop-n.n start.at in
-    let calls = calls_on (session_answers s) c.args.from c.loop-n.n n start.calls (c.run_quietly-n.ensures.runs.calls s start.bound c.loop-n.n start.at) in
+    let goes = c.run_quietly-n.ensures.runs.goes s c.loop-n.n (record { bound = start.bound; at = start.at }) in
+    let at = goes.at in
+    let calls = calls_on (session_answers s) c.args.from c.loop-n.n n start.calls goes.calls in
     let low : c.args.from ≤ n = omega (arith, start.low) in
     let high : n ≤ c.args.end = omega (arith, within, start.high) in
     arrives_here s c.args.from c.args.end n low new new at calls high (elim c.then-n-end.branch [
@@ -23,7 +24,7 @@ returns-then-n-end-clause-runs c =
     ])
 
 pub take_step-requires-clause-at : goal.take_step-requires-clause-at
-take_step-requires-clause-at c = (c.loop-n.n + c.run_quietly-n.result, c.run_quietly-n.ensures.runs.at c.args.session.now c.loop-n.invariant.bound c.loop-n.n c.loop-n.invariant.at)
+take_step-requires-clause-at c = (c.loop-n.n + c.run_quietly-n.result, (c.run_quietly-n.ensures.runs.goes c.args.session.now c.loop-n.n (record { bound = c.loop-n.invariant.bound; at = c.loop-n.invariant.at })).at)
 
 pub returns-in-Ok-Some-clause-runs : goal.returns-in-Ok-Some-clause-runs
 returns-in-Ok-Some-clause-runs c =
@@ -32,8 +33,9 @@ returns-in-Ok-Some-clause-runs c =
     let new = c.run_quietly-n.new.state in
     let within = c.run_quietly-n.ensures.within in
     let start = c.loop-n.invariant in
-    let at = c.run_quietly-n.ensures.runs.at s start.bound c.loop-n.n start.at in
-    let calls = calls_on (session_answers s) c.args.from c.loop-n.n n start.calls (c.run_quietly-n.ensures.runs.calls s start.bound c.loop-n.n start.at) in
+    let goes = c.run_quietly-n.ensures.runs.goes s c.loop-n.n (record { bound = start.bound; at = start.at }) in
+    let at = goes.at in
+    let calls = calls_on (session_answers s) c.args.from c.loop-n.n n start.calls goes.calls in
     let low : c.args.from ≤ n = omega (arith, start.low) in
     let high : n < c.args.end = let apart = c.if-n-end.false in omega (arith, within, apart, start.high) in
     let apart : new.state.core.regs.pc ≢ 0xfe06 = λ e. c.if-state.false (ap (λ (v : StateView). v.state.core.regs.pc) c.state.view_is ∙ e) in
@@ -46,8 +48,9 @@ returns-in-Err-clause-runs c =
     let new = c.run_quietly-n.new.state in
     let within = c.run_quietly-n.ensures.within in
     let start = c.loop-n.invariant in
-    let at = c.run_quietly-n.ensures.runs.at s start.bound c.loop-n.n start.at in
-    let calls = calls_on (session_answers s) c.args.from c.loop-n.n n start.calls (c.run_quietly-n.ensures.runs.calls s start.bound c.loop-n.n start.at) in
+    let goes = c.run_quietly-n.ensures.runs.goes s c.loop-n.n (record { bound = start.bound; at = start.at }) in
+    let at = goes.at in
+    let calls = calls_on (session_answers s) c.args.from c.loop-n.n n start.calls goes.calls in
     let low : c.args.from ≤ n = omega (arith, start.low) in
     let high : n < c.args.end = let apart = c.if-n-end.false in omega (arith, within, apart, start.high) in
     breaks_off s c.args.from c.args.end n low new c.take_step.new.state at calls c.in-Err.error high c.in-Err.ensures.step
@@ -59,8 +62,9 @@ loop-n-preserved c =
     let new = c.run_quietly-n.new.state in
     let within = c.run_quietly-n.ensures.within in
     let start = c.loop-n.invariant in
-    let at = c.run_quietly-n.ensures.runs.at s start.bound c.loop-n.n start.at in
-    let calls = calls_on (session_answers s) c.args.from c.loop-n.n n start.calls (c.run_quietly-n.ensures.runs.calls s start.bound c.loop-n.n start.at) in
+    let goes = c.run_quietly-n.ensures.runs.goes s c.loop-n.n (record { bound = start.bound; at = start.at }) in
+    let at = goes.at in
+    let calls = calls_on (session_answers s) c.args.from c.loop-n.n n start.calls goes.calls in
     let low : c.args.from ≤ n = omega (arith, start.low) in
     let high : n < c.args.end = let apart = c.if-n-end.false in omega (arith, within, apart, start.high) in
     let apart : new.state.core.regs.pc ≢ 0xfe06 = λ e. c.if-state.false (ap (λ (v : StateView). v.state.core.regs.pc) c.state.view_is ∙ e) in
