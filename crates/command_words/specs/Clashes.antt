@@ -1,6 +1,5 @@
 -- Words that ask for two things of which one excludes the other, or for one without another that it needs. (This project's profile.)
-use Rattle.std.specs.Prelude.{ℕ, ◌&&◌, Bool, not, if◌then◌else◌, List, [], ◌∷◌, ◌++◌, map, get_or, Option, Some, None, codes, is_some, true, false}
-use Rattle.std.specs.Borrow.{Bor}
+use Rattle.std.specs.Prelude.{ℕ, ◌&&◌, Bool, not, if◌then◌else◌, List, [], ◌∷◌, ◌++◌, map, get_or, Option, Some, None, codes, is_some}
 use Rattle.std.specs.Option.{option_map}
 use Rattle.command_words.specs.declared.clashes.Clash.{Clash}
 use Rattle.command_words.specs.declared.clashes.Clash.TheVariants.{Both, SameFolder, Missing}
@@ -80,16 +79,8 @@ names_in (Both first second) = first.now ∷ second.now ∷ []
 names_in (SameFolder first second) = []
 names_in (Missing option) = option.now ∷ []
 
-abbrev is_missing : Clash → Bool
-is_missing (Missing option) = true
-is_missing other = false
-
 abbrev pub names_of : Option Clash → Option (List (List ℕ))
 names_of clash = option_map names_in clash
-
--- A row of the code: two options, and what is wrong if both are given, or for a missing one if only the first is given.
-abbrev pub check_of : Option (Bor (List ℕ)) × Option (Bor (List ℕ)) × Clash → Check
-check_of row = record { fails = is_some row.0 && (if is_missing row.2 then not (is_some row.1) else is_some row.1); names = names_in row.2 }
 
 -- The words of a program are a usage error.
 abbrev pub run_clashes : Words → Bool

@@ -10,9 +10,6 @@ use Rattle.clap.specs.Words.{App, Row, Rule, Text, first_of, new_app, new_rule, 
 use Rattle.clap.specs.Simple.{on_top}
 use Rattle.clap.specs.declared.builder.action.ArgAction.TheVariants as action
 use Rattle.clap.specs.declared.builder.value_parser.ValueParser.TheVariants as parser
-use Rattle.command_words.specs.declared.options.Choice.{Choice}
-use Rattle.command_words.specs.declared.options.Choice.TheVariants.{Path, Flag, Number, NumberOr}
-use Rattle.command_words.specs.declared.options.Choice.TheVariants as choice
 use Rattle.command_words.specs.declared.words.SessionWords.{SessionWords}
 
 -- An option with one value.
@@ -37,14 +34,6 @@ number_rule name least most default = record (option_rule name) { parser = Some 
 -- The same without a default.
 abbrev pub range_rule : Text → ℕ → ℕ → Rule
 range_rule name least most = record (option_rule name) { parser = Some (parser.Unsigned least most) }
-
--- The rule of an option as the code's tables have it.
-abbrev pub rule_of_choice : Choice → Rule
-rule_of_choice (Path name value help) = path_rule name.now
-rule_of_choice (choice.Text name value help) = option_rule name.now
-rule_of_choice (Flag name help) = flag_rule name.now
-rule_of_choice (Number name least most help) = range_rule name.now least most
-rule_of_choice (NumberOr name least most default help) = number_rule name.now least most default.now
 
 -- A command with arguments added one after the other.
 abbrev pub with_rules : App → List Rule → App

@@ -4,3 +4,4 @@ pub mod RunLine
 pub mod DependencyLine
 pub mod TraceLine
 pub mod Clashes
+pub mod Rows

@@ -2,6 +2,7 @@
 
 ghost use Rattle.std.specs.Prelude.{◌≡◌, is_some, map, [], ◌∷◌};
 ghost use Rattle.command_words.specs.Clashes as texts;
+ghost use Rattle.command_words.specs.Rows.{check_of};
 
 use crate::clashes::Clash::{Both, Missing};
 use crate::trace_words::TraceWords;
@@ -23,8 +24,8 @@ type Check<'a> = (Option<&'a str>, Option<&'a str>, Clash);
 
 // Returns what is wrong by the first check that fails.
 fn first_failed(checks: &[Check<'_>]) -> Option<Clash>
-    ensures any { is_some result ≡ is_some (texts.first_failed (map texts.check_of checks.now)) }
-    ensures first { texts.names_of result ≡ texts.first_failed (map texts.check_of checks.now) }
+    ensures any { is_some result ≡ is_some (texts.first_failed (map check_of checks.now)) }
+    ensures first { texts.names_of result ≡ texts.first_failed (map check_of checks.now) }
 {
     for (one, other, clash) in checks {
         let fails = match clash {

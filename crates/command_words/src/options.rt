@@ -1,7 +1,8 @@
 ghost use Rattle.std.specs.Prelude.{◌≡◌, false, IfOk, map};
 ghost use Rattle.clap.specs.Words.{app_of, rule_of};
 ghost use Rattle.command_words.specs.CommandLine.{option_rule, plain_command, positional_rules, range_rule};
-ghost use Rattle.command_words.specs.CommandLine.{rule_of_choice, with_input_rules, with_rules};
+ghost use Rattle.command_words.specs.CommandLine.{with_input_rules, with_rules};
+ghost use Rattle.command_words.specs.Rows.{rule_of_choice};
 ghost use Rattle.command_words.specs.RunLine.{run_line};
 ghost use Rattle.command_words.specs.DependencyLine.{dependency_line};
 

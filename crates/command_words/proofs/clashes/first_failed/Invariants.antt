@@ -1,5 +1,6 @@
 use Rattle.std.proofs.Common.{◌≡◌, drop, map}
-use Rattle.command_words.specs.Clashes.{check_of, first_failed}
+use Rattle.command_words.specs.Clashes.{first_failed}
+use Rattle.command_words.specs.Rows.{check_of}
 use Rattle.command_words.proofs.clashes.first_failed.Given as goal
 
 abbrev pub invariant-loop-one : goal.invariant-loop-one

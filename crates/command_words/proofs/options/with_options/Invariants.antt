@@ -1,6 +1,7 @@
 use Rattle.std.proofs.Common.{◌≡◌, drop, map}
 use Rattle.clap.specs.Words.{app_of}
-use Rattle.command_words.specs.CommandLine.{rule_of_choice, with_rules}
+use Rattle.command_words.specs.CommandLine.{with_rules}
+use Rattle.command_words.specs.Rows.{rule_of_choice}
 use Rattle.command_words.proofs.options.with_options.Given as goal
 
 abbrev pub invariant-loop-option : goal.invariant-loop-option
