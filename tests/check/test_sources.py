@@ -113,13 +113,11 @@ CHECKPOINT = {
 
 MAY_REPORT_OUT_OF_MEMORY = {
     'command_words': 'error_class read_dependency_words read_trace_words read_words',
-    'cpmdeps': 'main',
-    'cpmtrace': 'main',
-    'cpmrun': 'plan_report replay_file text_fault write_report',
+    'cpmrun': 'plan_report replay_file write_report',
     'dependency_command': 'write_listing write_rule',
     'disks': 'disks_of id_at is_read_from lock lock_disks same_folders',
     'edit_lines': 'execute_edit hex_bytes',
-    'executable': 'main',
+    'faults': 'message report_fault status',
     'folders': 'add_file host_file names_in note read_failure read_one set write_failure',
     'hostfiles': 'number',
     'loading': 'read_fault tail_of typed_bytes typed_script',
@@ -127,8 +125,7 @@ MAY_REPORT_OUT_OF_MEMORY = {
     'one_run': 'path_of',
     'plan': 'look_into put remove trouble_of uncommitted unprepared',
     'replay': 'number',
-    'requests': 'clash_fault message report_fault request_of_error status taken_fault',
-    'trace_command': 'write_answer',
+    'requests': 'clash_fault program_words request_of_error taken_fault',
     'tracing': 'call_trace',
 }
 """The functions of each crate that report out of memory themselves, not by `?` or in a `From`. Most turn one error into another, or into a

@@ -3,27 +3,20 @@
 //! The crate has `main` alone, since a program of Rattle can't be a library too.
 #![tactic(auto)]
 
-use dependency_command::{Fault, Over, SystemFiles, Tool, dependency_command, report_fault};
-use std::env;
-use std::io::ErrorKind;
+use dependency_command::{
+    Over, SystemFiles, Tool, dependency_command, program_words, report_fault,
+};
 use std::process::ExitCode;
 
 /// Passes the words after the program's name to the command. A word that is not UTF-8 is a usage error.
 fn main(rt: HostRuntime) -> ExitCode {
-    let alloc = rt.alloc();
     let mut out = Over::new(rt.stdout());
     let mut err = Over::new(rt.stderr());
-    let args = match env::args(&rt) {
-        Ok(args) => args,
-        Err(error) if error.kind() == ErrorKind::OutOfMemory => {
-            return ExitCode::from(report_fault(alloc, Tool::Cpmdeps, Fault::OutOfMemory, &mut err));
+    let words = match program_words(&rt) {
+        Ok(words) => words,
+        Err(fault) => {
+            return ExitCode::from(report_fault(rt.alloc(), Tool::Cpmdeps, fault, &mut err));
         }
-        Err(_) => {
-            return ExitCode::from(report_fault(alloc, Tool::Cpmdeps, Fault::NotText, &mut err));
-        }
-    };
-    let Ok(words) = args.skip(1).collect::<Vec<String>>(alloc) else {
-        return ExitCode::from(report_fault(alloc, Tool::Cpmdeps, Fault::OutOfMemory, &mut err));
     };
     let mut system = SystemFiles::new(&rt);
     ExitCode::from(dependency_command(&mut system, words.as_slice(), &mut out, &mut err))

@@ -8,7 +8,7 @@ use Rattle.hostfiles.specs.Hosts.{Host}
 use Rattle.machine.specs.Inputs.{Session}
 use Rattle.machine.specs.PlainFiles.{Files}
 use Rattle.machine.specs.PlainState.{plain_run}
-use Rattle.requests.specs.declared.fault.Fault.{Fault}
+use Rattle.faults.specs.declared.fault.Fault.{Fault}
 use Rattle.cpmrun.specs.Reports.{IsRuleOf, IsTraceOf, Told, put_paths}
 use Rattle.cpmrun.specs.RunEnds.{AreReports, BreaksChanges, BreaksPlan, CarriesPlan, ChangesFiles, puts}
 

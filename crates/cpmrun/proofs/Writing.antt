@@ -9,7 +9,9 @@ use Rattle.edit_lines.specs.Faults.{AreLines, EndsReplay, replay_view}
 use Rattle.replay.specs.RunnerView.{RunnerView}
 use Rattle.streams.specs.Streams.{Output}
 use Rattle.folders.specs.FileSystem.{Path, FileBytes, Opens, text_at}
-use Rattle.cpmrun.specs.Ends.{BreaksOffWith}
+use Rattle.faults.specs.declared.fault.Fault.{Fault}
+use Rattle.loading.specs.Loading.{IsReadFaultOf}
+use Rattle.cpmrun.specs.Ends.{BreaksOffWith, BreaksReplay}
 use Rattle.cpmrun.specs.MeteredEnds.{WritesReplayBy}
 
 -- A reader that is read to its end returned all of its bytes.
@@ -63,3 +65,8 @@ breaks_file files path left f s before after o b = elim (of_file files path left
   | inl e ↦ subst (λ source. BreaksOffWith f source s before after) (sym e) b
   | inr e ↦ subst (λ source. BreaksOffWith f source s before after) (sym e) (record { left = b.left; last = b.last; bytes = b.bytes; done = b.done; next = b.next; read = tt; lines = b.lines; leaves = b.leaves })
 ]
+
+-- Edit lines whose file cannot be opened leave what was written as it is.
+pub unopened : (path : List ℕ) (source : Option (List ℕ)) (s : Session) (out : Output) (f : Fault) → IsReadFaultOf path f → BreaksReplay path source s out out f
+unopened path source s out f (inl is) = rw is (inl refl)
+unopened path source s out f (inr (p, is, h)) = rw is (h, inl refl)

@@ -1,14 +1,13 @@
 -- How the program ends, and how many steps its runs executed. (This project's own.)
 use Rattle.std.specs.Prelude.{◌≡◌, ℕ, List, Option, IfSome}
 use Rattle.command_words.specs.declared.words.Words.{Words}
-use Rattle.folders.specs.FileSystem.{text_at}
 use Rattle.replay.specs.RunnerView.{RunnerView, with_no_checkpoint}
 use Rattle.replay.specs.declared.options.Options.{Options}
 use Rattle.edit_lines.specs.Effects.{Effects}
 use Rattle.edit_lines.specs.Pieces.{lines_of}
 use Rattle.edit_lines.specs.Replay.{Finished, Replays}
-use Rattle.cpmrun.specs.Ends.{EndsBy}
-use Rattle.one_run.specs.World.{World}
+use Rattle.requests.specs.Programs.{Program}
+use Rattle.cpmrun.specs.Ends.{Replay, program_with}
 use Rattle.streams.specs.Streams.{Output, WritesWhole}
 
 -- The options for checkpoints in the words.
@@ -27,7 +26,9 @@ pub record WritesReplayBy (source : Option (List ℕ)) (first : RunnerView) (bef
   pub replayed : Replays first.session (lines_of bytes) text last.session (Finished count)
   pub effects : Effects first 0 (lines_of bytes) last steps
 
--- The program ends without an error, and a replay executes `steps` steps, by a runner with the options of the words.
-abbrev pub MeteredEnds : List (List ℕ) → ℕ → World → World → ℕ → Type 0
-MeteredEnds words status before after steps =
-    EndsBy (λ w s path. WritesReplayBy (text_at before.files.bytes path) (with_no_checkpoint s (options_of w)) before.out after.out steps) words status before after
+-- `cpmrun`, whose replays execute this many steps by runners with the options of the words.
+abbrev pub by_runner : ℕ → Replay
+by_runner steps w s source before after = WritesReplayBy source (with_no_checkpoint s (options_of w)) before after steps
+
+abbrev pub metered : ℕ → Program Words
+metered steps = program_with (by_runner steps)

@@ -12,10 +12,11 @@ use Rattle.machine.specs.Inputs.{Session}
 use Rattle.make_rules.specs.RefusedPaths.{refuses_rule}
 use Rattle.make_rules.specs.RunRules.{IsRule}
 use Rattle.plan.specs.Wanted.{Wanted, wanted}
-use Rattle.requests.specs.FaultReports.{clash_reason, usage_text, value_text}
-use Rattle.requests.specs.declared.fault.Fault.{Fault}
-use Rattle.requests.specs.declared.fault.Fault.TheVariants.{Folders, OutOfMemory, Usage}
-use Rattle.requests.specs.declared.tool.Tool.TheVariants.{Cpmrun}
+use Rattle.faults.specs.Faults.{usage_text, value_text}
+use Rattle.requests.specs.Requests.{clash_reason}
+use Rattle.faults.specs.declared.fault.Fault.{Fault}
+use Rattle.faults.specs.declared.fault.Fault.TheVariants.{Folders, OutOfMemory, Usage}
+use Rattle.faults.specs.declared.tool.Tool.TheVariants.{Cpmrun}
 use Rattle.tracing.specs.Trace.{each_call, trace_text}
 use Rattle.cpmrun.specs.declared.reports.Placing.{Placing}
 use Rattle.cpmrun.specs.declared.reports.Placing.TheVariants.{InPlan, Through}

@@ -1,10 +1,10 @@
 -- One run of the session of the words: what it writes and changes, its status, and what an error leaves. (This project's profile.)
-use Rattle.std.specs.Prelude.{◌≡◌, ℕ, ◌⊎◌, ◌||◌, ◌++◌, Bool, true, false, if◌then◌else◌, List, Option, Result, MatchOption, Ok, Err, is_some, map}
+use Rattle.std.specs.Prelude.{◌≡◌, ℕ, ◌⊎◌, ◌||◌, ◌&&◌, ◌++◌, Bool, true, false, if◌then◌else◌, List, Option, Result, MatchOption, Ok, Err, is_some, map}
 use Rattle.std.specs.List.{list_any}
 use Rattle.command_words.specs.RunLine.{session_words}
 use Rattle.command_words.specs.declared.words.Words.{Words}
 use Rattle.folders.specs.ChangedBytes.{written_bytes}
-use Rattle.folders.specs.DriveFolders.{AreListings, folders_with, seen}
+use Rattle.folders.specs.DriveFolders.{folders_with, seen}
 use Rattle.folders.specs.Faults.{FailsBy}
 use Rattle.folders.specs.FileSystem.{FileBytes}
 use Rattle.folders.specs.declared.contents.Written.{Written}
@@ -12,31 +12,27 @@ use Rattle.folders.specs.declared.fault.Failure.{Failure}
 use Rattle.folders.specs.declared.listing.Listing.{Listing}
 use Rattle.folders.specs.declared.places.Places.{Places}
 use Rattle.hostfiles.specs.Hosts.{Host}
-use Rattle.loading.specs.Loading.{IsLoadedFrom}
 use Rattle.machine.specs.Cause.{Cause}
 use Rattle.machine.specs.Cause.TheVariants.{WarmBoot}
 use Rattle.machine.specs.Inputs.{Session}
 use Rattle.machine.specs.PlainFiles.{Files}
 use Rattle.machine.specs.PlainState.{plain_run}
 use Rattle.make_rules.specs.RefusedPaths.{FailsPaths}
-use Rattle.make_rules.specs.declared.fault.RuleFault.{RuleFault}
 use Rattle.one_run.specs.Planned.{places_at, planned}
-use Rattle.one_run.specs.RunTexts.{BreaksText, console_text, stop_status, stop_text}
+use Rattle.one_run.specs.RunTexts.{console_text, stop_status, stop_text}
 use Rattle.one_run.specs.World.{World}
-use Rattle.one_run.specs.declared.fault.RunFault.{RunFault}
-use Rattle.one_run.specs.declared.fault.RunFault.TheVariants as run
 use Rattle.one_run.specs.declared.planning.Turn.TheVariants.{Outside, New, Replacing, Gone}
 use Rattle.plan.specs.Carries.{Carries, CarriesEach}
 use Rattle.plan.specs.Faults.{IsAnyWriteFault}
 use Rattle.plan.specs.Wanted.{Wanted, wanted_of}
 use Rattle.plan.specs.declared.deed.Deed.{Deed}
-use Rattle.requests.specs.FaultReports.{of_failure}
-use Rattle.requests.specs.Requests.{FailsToLoadSession, WritesNothing}
-use Rattle.requests.specs.RuleFaults.{of_rule}
-use Rattle.requests.specs.declared.fault.Fault.{Fault}
-use Rattle.requests.specs.declared.fault.Fault.TheVariants.{CannotWrite, DiskUnchanged, OutOfMemory}
+use Rattle.faults.specs.Faults.{BreaksText, of_failure}
+use Rattle.requests.specs.Programs.{Task}
+use Rattle.requests.specs.Requests.{WritesNothing}
+use Rattle.faults.specs.declared.fault.Fault.{Fault}
+use Rattle.faults.specs.declared.fault.Fault.TheVariants.{CannotWrite, DiskUnchanged}
 use Rattle.streams.specs.Streams.{WritesOrFails, WritesWhole}
-use Rattle.cpmrun.specs.Reports.{IsEarly, IsElsewhere, IsPlanFault, IsRuleOf, IsTraceOf, Told, put_paths, report_part, rule_path, written_folders}
+use Rattle.cpmrun.specs.Reports.{AllowsRule, IsEarly, IsElsewhere, IsPlanFault, IsRuleOf, IsTraceOf, Told, put_paths, report_part, rule_path, written_folders}
 
 -- Whether the run changes the disks: it stopped by the warm start, or the words ask for it whatever the stop.
 abbrev pub is_warm : Cause → Bool
@@ -128,39 +124,36 @@ pub record Runs (w : Words) (listings : List (Option Listing)) (s : Session) (st
   pub files : ChangesFiles w listings s (places_at (changes_disks w (plain_run s).cause) places) before.files.bytes after.files.bytes
   pub reported : WritesOrFails before.err after.err (stop_text places (changes_disks w (plain_run s).cause) s)
 
--- The error for a console text that was not written in full.
+-- The error for a console text that was not written in full: it says also that the disks are as they were.
 abbrev pub has_disks : Words → Bool
 has_disks w = list_any is_some w.disk
 
-abbrev pub of_run : Words → RunFault → Fault
-of_run w run.CannotWrite = if has_disks w then DiskUnchanged else CannotWrite
-of_run w run.OutOfMemory = OutOfMemory
+abbrev pub is_unwritten : Fault → Bool
+is_unwritten CannotWrite = true
+is_unwritten fault = false
+
+abbrev pub of_text : Words → Fault → Fault
+of_text w fault = if is_unwritten fault && has_disks w then DiskUnchanged else fault
 
 -- What an error leaves: nothing was written; or a prefix of the console text, and the files unchanged; or all of the text, and files that were
 -- not changed as the run asks.
 abbrev pub BreaksRun : Words → List (Option Listing) → Session → World → World → Fault → Type 0
 BreaksRun w listings s before after fault =
     (IsEarly w fault × WritesNothing before after)
-    ⊎ ((f : RunFault) × (fault ≡ of_run w f) × BreaksText (console_text s) before.out after.out f × (after.files.bytes ≡ before.files.bytes))
+    ⊎ ((f : Fault) × (fault ≡ of_text w f) × BreaksText (console_text s) before.out after.out f × (after.files.bytes ≡ before.files.bytes))
     ⊎ (WritesWhole before.out after.out (console_text s) × ((p : Places) × ArePlaces w listings p
     × BreaksChanges w listings s (places_at (changes_disks w (plain_run s).cause) p) before.files.bytes after.files.bytes fault))
 
--- The session of the words was loaded and run.
-pub record RunsWords (w : Words) (status : ℕ) (before after : World) : Type 0 where
-  pub s : Session
-  pub listings : List (Option Listing)
-  pub of : IsLoadedFrom before.files (session_words w) s
-  pub listed : AreListings before.files (session_words w).files listings
-  pub runs : Runs w listings s status before after
-
 -- A rule for make cannot have a path of the words.
 abbrev pub RefusesRule : Words → Fault → Type 0
-RefusesRule w fault = (f : RuleFault) × (fault ≡ of_rule f) × MatchOption w.deps ⊥ (λ path. FailsPaths (session_words w) (rule_path w path) (written_folders w) f)
+RefusesRule w fault = MatchOption w.deps ⊥ (λ path. FailsPaths (session_words w) (rule_path w path) (written_folders w) fault)
 
--- An error of such words: before a session is loaded, of loading it, or of its run.
-abbrev pub BreaksWords : Words → World → World → Fault → Type 0
-BreaksWords w before after fault =
-    ((IsEarly w fault ⊎ RefusesRule w fault) × WritesNothing before after)
-    ⊎ FailsToLoadSession (session_words w) before after fault
-    ⊎ ((s : Session) × (listings : List (Option Listing)) × IsLoadedFrom before.files (session_words w) s × AreListings before.files (session_words w).files listings
-    × BreaksRun w listings s before after fault)
+-- The session of the words is run once.
+abbrev pub run_once : Words → Task
+run_once w = record {
+  session = session_words w;
+  Refuses = λ fault. IsEarly w fault ⊎ RefusesRule w fault;
+  Allows = AllowsRule w;
+  Answers = λ s listings status before after. Runs w listings s status before after;
+  Breaks = λ s listings before after fault. BreaksRun w listings s before after fault;
+}

@@ -1,13 +1,14 @@
 // The whole program except its `main`.
 
-ghost use Rattle.std.specs.Prelude.{◌≡◌, ◌⊎◌, ◌<◌, None, IfOk, IfErr, OnOk, OnErr, map, string_bytes};
+ghost use Rattle.std.specs.Prelude.{◌≡◌, ◌<◌, None, IfOk, IfErr, OnOk, OnErr, map, string_bytes};
 ghost use Rattle.machine.specs.Inputs.{Session};
 ghost use Rattle.replay.specs.Options.{refusal_of};
 ghost use Rattle.replay.specs.RunnerView.{with_no_checkpoint};
 ghost use Rattle.folders.specs.Failures.{KeepsFiles, ReportsPaths};
-ghost use Rattle.requests.specs.FaultReports.{file_paths};
-ghost use Rattle.cpmrun.specs.Ends.{BreaksOffWith, BreaksReplay, EndsWithoutFault, EndsByFault, FaultOf};
-ghost use Rattle.cpmrun.specs.MeteredEnds.{MeteredEnds, WritesReplayBy, options_of};
+ghost use Rattle.faults.specs.Faults.{file_paths};
+ghost use Rattle.requests.specs.Programs.{Ends, EndsWell, FaultOf};
+ghost use Rattle.cpmrun.specs.Ends.{BreaksOffWith, BreaksReplay, cpmrun};
+ghost use Rattle.cpmrun.specs.MeteredEnds.{WritesReplayBy, metered, options_of};
 ghost use Rattle.one_run.specs.World.{world};
 ghost use Rattle.streams.specs.Streams.{Output};
 ghost use Rattle.folders.specs.FileSystem.{text_at};
@@ -98,10 +99,11 @@ fn run<'a, S: FileSystem, O: Writer, E: Writer>(
     err: &mut E,
 ) -> Result<u8, Fault<'a>>
     requires { meter.old ≡ 0 }
-    ensures done { IfOk result (λ status. MeteredEnds (map string_bytes words.entry.now) status
+    ensures done { IfOk result (λ status. EndsWell (metered meter.new)
+        (map string_bytes words.entry.now) status
         (world (S.files system.old) (O.output out.old) (E.output err.old))
-        (world (S.files system.new) (O.output out.new) (E.output err.new)) meter.new) }
-    ensures fault { IfErr result (λ fault. (old new : Output) → FaultOf
+        (world (S.files system.new) (O.output out.new) (E.output err.new))) }
+    ensures fault { IfErr result (λ fault. (old new : Output) → FaultOf (metered meter.new)
         (map string_bytes words.entry.now) (world (S.files system.old) (O.output out.old) old)
         (world (S.files system.new) (O.output out.new) new) fault) }
     ensures unreported { OnErr result (E.output err.new ≡ E.output err.old) }
@@ -131,13 +133,9 @@ pub fn metered_command<S: FileSystem, O: Writer, E: Writer>(
     err: &mut E,
 ) -> u8
     requires { meter.old ≡ 0 }
-    ensures ends { let before = world (S.files system.old) (O.output out.old) (E.output err.old) in
-        let after = world (S.files system.new) (O.output out.new) (E.output err.new) in
-        MeteredEnds (map string_bytes words.now) result before after meter.new
-        ⊎ EndsByFault (map string_bytes words.now) result before after }
-    ensures done { result ≡ 0 → MeteredEnds (map string_bytes words.now) result
+    ensures { Ends (metered meter.new) (map string_bytes words.now) result
         (world (S.files system.old) (O.output out.old) (E.output err.old))
-        (world (S.files system.new) (O.output out.new) (E.output err.new)) meter.new }
+        (world (S.files system.new) (O.output out.new) (E.output err.new)) }
 {
     match run(system, words, meter, out, err) {
         Ok(status) => status,
@@ -154,11 +152,7 @@ pub fn command<S: FileSystem, O: Writer, E: Writer>(
     out: &mut O,
     err: &mut E,
 ) -> u8
-    ensures ends { let before = world (S.files system.old) (O.output out.old) (E.output err.old) in
-        let after = world (S.files system.new) (O.output out.new) (E.output err.new) in
-        EndsWithoutFault (map string_bytes words.now) result before after
-        ⊎ EndsByFault (map string_bytes words.now) result before after }
-    ensures done { result ≡ 0 → EndsWithoutFault (map string_bytes words.now) result
+    ensures { Ends cpmrun (map string_bytes words.now) result
         (world (S.files system.old) (O.output out.old) (E.output err.old))
         (world (S.files system.new) (O.output out.new) (E.output err.new)) }
 {

@@ -10,7 +10,7 @@ ghost use Rattle.folders.specs.FileSystem.{IsFree};
 ghost use Rattle.make_rules.specs.Carried.{is_carried};
 ghost use Rattle.plan.specs.Faults.{IsAnyWriteFault};
 ghost use Rattle.plan.specs.Wanted.{wanted_of};
-ghost use Rattle.requests.specs.FaultReports.{file_paths};
+ghost use Rattle.faults.specs.Faults.{file_paths};
 ghost use Rattle.cpmrun.specs.Reports as texts;
 
 use command_words::Words;

@@ -8,7 +8,8 @@ ghost use Rattle.machine.specs.PlainState.{plain_run};
 ghost use Rattle.one_run.specs.Planned.{planned};
 ghost use Rattle.one_run.specs.World.{world};
 ghost use Rattle.one_run.specs.declared.planning.Turn.TheVariants.{Outside};
-ghost use Rattle.requests.specs.FaultReports.{file_paths};
+ghost use Rattle.faults.specs.Faults.{file_paths};
+ghost use Rattle.requests.specs.Programs.{Does, Fails};
 ghost use Rattle.streams.specs.Streams.{Output};
 ghost use Rattle.cpmrun.specs.Reports.{AllowsRule, IsEarly, told, written_folders};
 ghost use Rattle.cpmrun.specs.RunEnds as texts;
@@ -23,7 +24,7 @@ use folders::{DriveFolder, FileSystem, Listing, Places, Written};
 use loading::{Loaded, load};
 use machine::{Cause, Noting, WholeRun};
 use make_rules::check_paths;
-use one_run::{Changes, RunFault, Turn, report_stop, run_to_end, stop_status};
+use one_run::{Changes, Turn, report_stop, run_to_end, stop_status};
 use plan::{Plan, carry_out, carry_out_each};
 use requests::{Fault, Tool, clash_fault};
 use std::alloc::{AllocError, Global};
@@ -60,17 +61,28 @@ fn noting_of(words: &Words<'_>) -> Noting
     }
 }
 
-// Returns the error of a run whose console text was not written in full. No disk is changed then.
-fn text_fault<'a>(words: &Words<'_>, fault: RunFault) -> Fault<'a>
-    ensures { result ≡ texts.of_run words.now fault }
+// Returns whether a drive has a disk.
+fn has_disks(words: &Words<'_>) -> bool
+    ensures { result ≡ texts.has_disks words.now }
 {
-    match fault {
-        RunFault::OutOfMemory => Fault::OutOfMemory,
-        RunFault::CannotWrite if words.disk.iter().any(|disk| disk.is_some()) => {
-            Fault::DiskUnchanged
-        }
-        RunFault::CannotWrite => Fault::CannotWrite,
+    words.disk.iter().any(|disk| disk.is_some())
+}
+
+// Returns whether an error is that standard output could not be written.
+fn is_unwritten(fault: &Fault<'_>) -> bool
+    ensures { result ≡ texts.is_unwritten fault.now }
+{
+    matches!(fault, Fault::CannotWrite)
+}
+
+// Returns the error of a run whose console text was not written in full. No disk is changed then.
+fn text_fault<'a>(words: &Words<'_>, fault: Fault<'a>) -> Fault<'a>
+    ensures { result ≡ texts.of_text words.now fault.entry }
+{
+    if is_unwritten(&fault) && has_disks(words) {
+        return Fault::DiskUnchanged;
     }
+    fault
 }
 
 // Plans the rest, and does all: files outside of disks are written one after another, and then the plan for disks is done as a whole, with
@@ -222,7 +234,7 @@ fn check_rule<'a>(alloc: Global, words: &Words<'a>) -> Result<(), Fault<'a>>
     };
     let path = words.target.unwrap_or(path);
     let written = written_folders(words);
-    Ok(check_paths(alloc, &words.session(), path, written.as_slice())?)
+    check_paths(alloc, &words.session(), path, written.as_slice())
 }
 
 /// Runs the session of the words once. Its console text is written to `out` while it runs. Then its files are changed as a whole: on the
@@ -239,10 +251,10 @@ pub fn run_words<'a, S: FileSystem, O: Writer, E: Writer>(
     out: &mut O,
     err: &mut E,
 ) -> Result<u8, Fault<'a>>
-    ensures done { IfOk result (λ status. texts.RunsWords words.now status
+    ensures done { IfOk result (λ status. Does (texts.run_once words.now) status
         (world (S.files system.old) (O.output out.old) (E.output err.old))
         (world (S.files system.new) (O.output out.new) (E.output err.new))) }
-    ensures fault { IfErr result (λ fault. (old new : Output) → texts.BreaksWords words.now
+    ensures fault { IfErr result (λ fault. (old new : Output) → Fails (texts.run_once words.now)
         (world (S.files system.old) (O.output out.old) old)
         (world (S.files system.new) (O.output out.new) new) fault) }
     ensures unreported { OnErr result (E.output err.new ≡ E.output err.old) }

@@ -12,8 +12,8 @@ use Rattle.machine.specs.Cause.{Cause}
 use Rattle.machine.specs.Inputs.{Session}
 use Rattle.make_rules.specs.RunRules.{IsRule}
 use Rattle.streams.specs.Streams.{Output, WritesOrFails, WritesPart, WritesWhole}
-use Rattle.requests.specs.declared.fault.Fault.{Fault}
-use Rattle.requests.specs.declared.fault.Fault.TheVariants.{CannotWrite, OutOfMemory}
+use Rattle.faults.specs.declared.fault.Fault.{Fault}
+use Rattle.faults.specs.declared.fault.Fault.TheVariants.{CannotWrite, OutOfMemory}
 
 -- Which neighbours the words put into one row.
 abbrev pub rows_of : DependencyWords → Joining

@@ -1,3 +1,3 @@
 pub mod AreDependencyWords
 pub mod Answers
-pub mod AnswerEnds
+pub mod Program

@@ -1,17 +1,18 @@
 // The whole program except its `main`.
 
-ghost use Rattle.std.specs.Prelude.{◌≡◌, ◌⊎◌, ◌∷◌, [], IfErr, IfOk, OnErr, OnOk, false, map, string_bytes};
+ghost use Rattle.std.specs.Prelude.{◌≡◌, ◌∷◌, [], IfErr, IfOk, OnErr, OnOk, false, map, string_bytes};
 ghost use Rattle.folders.specs.Failures.{KeepsFiles};
 ghost use Rattle.one_run.specs.World.{world};
 ghost use Rattle.dependencies.specs.Dependencies.{AreDependencies};
 ghost use Rattle.report_lines.specs.FirstLines.{stop_line};
 ghost use Rattle.streams.specs.Streams.{Output, WritesOrFails};
-ghost use Rattle.requests.specs.FaultReports.{file_paths};
+ghost use Rattle.faults.specs.Faults.{file_paths};
 ghost use Rattle.make_rules.specs.RefusedPaths.{refuses_rule};
 ghost use Rattle.make_rules.specs.RunRules.{IsRule};
 ghost use Rattle.dependency_command.specs.Answers.{BreaksAnswer, IsAnswer, IsListing};
 ghost use Rattle.dependency_command.specs.Answers.{ReportsAnswer, ReportsStop, WritesAnswer, rows_of};
-ghost use Rattle.dependency_command.specs.AnswerEnds.{AllowsPaths, EndsByFault, EndsWithAnswer, FaultOf, RefusesPaths};
+ghost use Rattle.dependency_command.specs.Program.{AllowsPaths, RefusesPaths, cpmdeps};
+ghost use Rattle.requests.specs.Programs.{Ends, EndsWell, FaultOf};
 
 use crate::request::read_request;
 use command_words::{DependencyWords, SessionWords};
@@ -20,7 +21,7 @@ use dependency_lines::write_dependencies;
 use folders::{FileSystem, Listing};
 use loading::{Loaded, load};
 use machine::{Cause, Session, WholeRun};
-use make_rules::{RuleFault, check_paths, rule_of_run};
+use make_rules::{check_paths, rule_of_run};
 use report_lines::stop_line;
 use requests::{Fault, Request, Tool, print_information, report_fault};
 use std::alloc::{AllocError, Global};
@@ -150,7 +151,7 @@ fn write_answer<'a, O: Writer, E: Writer>(
 }
 
 /// Checks whether a rule for make can have the paths among the words, if they ask for one.
-fn check_words(alloc: Global, words: &DependencyWords<'_>) -> Result<(), RuleFault>
+fn check_words<'a>(alloc: Global, words: &DependencyWords<'_>) -> Result<(), Fault<'a>>
     ensures allowed { OnOk result (AllowsPaths words.now) }
     ensures refused { IfErr result (RefusesPaths words.now) }
 {
@@ -167,10 +168,10 @@ fn run<'a, S: FileSystem, O: Writer, E: Writer>(
     out: &mut O,
     err: &mut E,
 ) -> Result<(), Fault<'a>>
-    ensures done { OnOk result (EndsWithAnswer (map string_bytes words.entry.now) 0
+    ensures done { OnOk result (EndsWell cpmdeps (map string_bytes words.entry.now) 0
         (world (S.files system.old) (O.output out.old) (E.output err.old))
         (world (S.files system.new) (O.output out.new) (E.output err.new))) }
-    ensures fault { IfErr result (λ fault. (err : Output) → FaultOf (map string_bytes words.entry.now)
+    ensures fault { IfErr result (λ fault. (err : Output) → FaultOf cpmdeps (map string_bytes words.entry.now)
         (world (S.files system.old) (O.output out.old) err)
         (world (S.files system.new) (O.output out.new) err) fault) }
     ensures unreported { OnErr result (err.new ≡ err.old) }
@@ -194,11 +195,7 @@ pub fn dependency_command<S: FileSystem, O: Writer, E: Writer>(
     out: &mut O,
     err: &mut E,
 ) -> u8
-    ensures ends { let before = world (S.files system.old) (O.output out.old) (E.output err.old) in
-        let after = world (S.files system.new) (O.output out.new) (E.output err.new) in
-        EndsWithAnswer (map string_bytes words.now) result before after
-        ⊎ EndsByFault (map string_bytes words.now) result before after }
-    ensures done { result ≡ 0 → EndsWithAnswer (map string_bytes words.now) result
+    ensures ends { Ends cpmdeps (map string_bytes words.now) result
         (world (S.files system.old) (O.output out.old) (E.output err.old))
         (world (S.files system.new) (O.output out.new) (E.output err.new)) }
     ensures files { (S.files system.new).bytes ≡ (S.files system.old).bytes }

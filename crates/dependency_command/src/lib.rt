@@ -9,5 +9,5 @@ mod request;
 
 pub use command_line::dependency_command;
 pub use folders::{FileSystem, SystemFiles};
-pub use requests::{Fault, Tool, report_fault};
+pub use requests::{Fault, Tool, program_words, report_fault};
 pub use streams::{Over, Writer};

@@ -1,10 +1,12 @@
 // The request in the words of the command line.
 
 ghost use Rattle.std.specs.Prelude.{IfOk, IfErr, map, string_bytes};
-ghost use Rattle.command_words.specs.DependencyLine.{dependency_faults};
+ghost use Rattle.command_words.specs.DependencyLine.{AreDependencyWordsOf, dependency_faults, dependency_matches};
 ghost use Rattle.command_words.specs.ErrorClass.{HasErrorClass};
-ghost use Rattle.requests.specs.Requests.{IsRequestOf};
-ghost use Rattle.dependency_command.specs.AreDependencyWords.{AreDependencyWords, RefusesWords};
+ghost use Rattle.command_words.specs.Clashes.{dependency_checks};
+ghost use Rattle.faults.specs.declared.tool.Tool.TheVariants.{Cpmdeps};
+ghost use Rattle.requests.specs.Requests.{FailsToTake, IsRequestOf};
+ghost use Rattle.dependency_command.specs.AreDependencyWords.{AreDependencyWords};
 
 use command_words::{DependencyWords, error_class, read_dependency_words};
 use requests::{Fault, Request, Tool, clash_fault, request_of_error};
@@ -17,7 +19,9 @@ pub fn read_request<'a>(
 ) -> Result<Request<DependencyWords<'a>>, Fault<'a>>
     ensures request { let texts = map string_bytes words.entry.now in
         IfOk result (IsRequestOf (AreDependencyWords texts) (HasErrorClass (dependency_faults texts))) }
-    ensures fault { IfErr result (RefusesWords (map string_bytes words.entry.now)) }
+    ensures fault { let texts = map string_bytes words.entry.now in
+        IfErr result (FailsToTake Cpmdeps (HasErrorClass (dependency_faults texts))
+        (AreDependencyWordsOf (dependency_matches texts)) dependency_checks) }
 {
     match read_dependency_words(alloc, words) {
         Ok(words) => match words.clash() {

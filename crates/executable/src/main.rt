@@ -3,27 +3,18 @@
 //! The crate has `main` alone, since a program of Rattle can't be a library too.
 #![tactic(auto)]
 
-use cpmrun::{Fault, Over, SystemFiles, Terminal, Tool, command, report_fault};
-use std::env;
-use std::io::ErrorKind;
+use cpmrun::{Over, SystemFiles, Terminal, Tool, command, program_words, report_fault};
 use std::process::ExitCode;
 
 /// Passes the words after the program's name to the command. A word that is not UTF-8 is a usage error.
 fn main(rt: HostRuntime) -> ExitCode {
-    let alloc = rt.alloc();
     let mut out = Over::new(rt.stdout());
     let mut err = Terminal::new(&rt, rt.stderr());
-    let args = match env::args(&rt) {
-        Ok(args) => args,
-        Err(error) if error.kind() == ErrorKind::OutOfMemory => {
-            return ExitCode::from(report_fault(alloc, Tool::Cpmrun, Fault::OutOfMemory, &mut err));
+    let words = match program_words(&rt) {
+        Ok(words) => words,
+        Err(fault) => {
+            return ExitCode::from(report_fault(rt.alloc(), Tool::Cpmrun, fault, &mut err));
         }
-        Err(_) => {
-            return ExitCode::from(report_fault(alloc, Tool::Cpmrun, Fault::NotText, &mut err));
-        }
-    };
-    let Ok(words) = args.skip(1).collect::<Vec<String>>(alloc) else {
-        return ExitCode::from(report_fault(alloc, Tool::Cpmrun, Fault::OutOfMemory, &mut err));
     };
     let mut system = SystemFiles::new(&rt);
     ExitCode::from(command(&mut system, words.as_slice(), &mut out, &mut err))

@@ -12,23 +12,19 @@ use Rattle.folders.specs.Folders.{AreFromFolders, FailsFolders}
 use Rattle.folders.specs.declared.fault.Failure.{Failure}
 use Rattle.folders.specs.declared.fault.Failure.TheVariants as failure
 use Rattle.folders.specs.declared.fault.Failure.TheVariants.{AtFault}
-use Rattle.loading.specs.Faults.{fault_of}
+use Rattle.faults.specs.Faults.{of_failure}
 use Rattle.loading.specs.Typed.{IsTyped}
-use Rattle.loading.specs.declared.fault.LoadFault.{LoadFault}
-use Rattle.loading.specs.declared.fault.LoadFault.TheVariants.{BadEscape, CannotRead, Folders, Refused, OutOfMemory}
+use Rattle.faults.specs.declared.fault.Fault.{Fault}
+use Rattle.faults.specs.declared.fault.Fault.TheVariants.{BadEscape, CannotRead, Folders, Refused, OutOfMemory}
 use Rattle.loading.specs.Loading.{FailsToLoad, HasTypedScript, IsLoadedFrom, IsProgramOf, IsReadFaultIfAny, IsReadFaultOf, IsScriptAt, IsScriptOf, IsTypedFault, IsTypedScript, MadeOrRefused}
 
 -- A refusal of the session is a refusal of the words.
-pub refused_of_words : (stored : StoredFiles) (w : SessionWords) (program : List ℕ) (files : Host) (script : List ℕ) (r : Result Session LoadFault)
+pub refused_of_words : (stored : StoredFiles) (w : SessionWords) (program : List ℕ) (files : Host) (script : List ℕ) (r : Result Session Fault)
     → IsProgramOf stored w program → AreFromFolders stored w.files files → IsScriptOf stored w script
     → MadeOrRefused (session_or_refusal program w.tail.now files script w.limit) r → IfErr r (FailsToLoad stored w)
 refused_of_words stored w program files script (Ok s) p a b h = tt
-refused_of_words stored w program files script (Err (BadEscape text)) p a b h = absurd h
-refused_of_words stored w program files script (Err (CannotRead path)) p a b h = absurd h
-refused_of_words stored w program files script (Err (Folders f)) p a b h = absurd h
-refused_of_words stored w program files script (Err (Refused n)) p a b h =
-    record { program = program; files = files; script = script; of_program = p; from_folders = a; of_script = b; refused = h }
-refused_of_words stored w program files script (Err OutOfMemory) p a b h = absurd h
+refused_of_words stored w program files script (Err f) p a b (n, is, h) =
+    rw is (record { program = program; files = files; script = script; of_program = p; from_folders = a; of_script = b; refused = h })
 
 -- The script of a text, or of a file if there is no text.
 pub typed_known : (stored : StoredFiles) (w : SessionWords) (script : List ℕ) → IsTypedScript w.typed (Some script) → IsScriptOf stored w script
@@ -53,40 +49,31 @@ well_typed w o h = by w.typed o h where
   by (Some text) (Some script) h = (script, h)
 
 -- If the text of the script has a bad escape, no session is loaded.
-pub badly_typed : (stored : StoredFiles) (w : SessionWords) (f : LoadFault) → MatchOption w.typed ⊥ (λ text. IsTypedFault text f) → FailsToLoad stored w f
+pub badly_typed : (stored : StoredFiles) (w : SessionWords) (f : Fault) → MatchOption w.typed ⊥ (λ text. IsTypedFault text f) → FailsToLoad stored w f
 badly_typed stored w f h = by w.typed refl f h where
-  by : (o : Option (Bor (List ℕ))) → w.typed ≡ o → (f : LoadFault) → MatchOption o ⊥ (λ text. IsTypedFault text f) → FailsToLoad stored w f
-  by o e OutOfMemory h = tt
+  by : (o : Option (Bor (List ℕ))) → w.typed ≡ o → (f : Fault) → MatchOption o ⊥ (λ text. IsTypedFault text f) → FailsToLoad stored w f
   by None e f h = absurd h
-  by (Some text) e (BadEscape t) h = (e ∙ ap Some (sym h.0), rw h.0 h.1)
-  by (Some text) e (CannotRead p) h = absurd h
-  by (Some text) e (Folders f) h = absurd h
-  by (Some text) e (Refused n) h = absurd h
+  by (Some text) e f (inl is) = rw is tt
+  by (Some text) e f (inr (is, bad)) = rw is (e, bad)
 
 -- If the program cannot be read, no session is loaded.
-pub program_unread : (stored : StoredFiles) (w : SessionWords) (f : LoadFault) → HasTypedScript w → IsReadFaultOf w.program.now f → FailsToLoad stored w f
-program_unread stored w (BadEscape text) t h = absurd h
-program_unread stored w (CannotRead p) t h = (t, inl h)
-program_unread stored w (Folders f) t h = absurd h
-program_unread stored w (Refused n) t h = absurd h
-program_unread stored w OutOfMemory t h = tt
+pub program_unread : (stored : StoredFiles) (w : SessionWords) (f : Fault) → HasTypedScript w → IsReadFaultOf w.program.now f → FailsToLoad stored w f
+program_unread stored w f t (inl is) = rw is tt
+program_unread stored w f t (inr (p, is, h)) = rw is (t, inl h)
 
 -- If the folders cannot be read, no session is loaded.
 pub folders_unread : (stored : StoredFiles) (w : SessionWords) (program : List ℕ) (f : Failure) → HasTypedScript w → IsProgramOf stored w program → FailsFolders stored w.files f
-    → FailsToLoad stored w (fault_of f)
+    → FailsToLoad stored w (of_failure f)
 folders_unread stored w program (AtFault fault) t p h = (t, (program, p), h)
 folders_unread stored w program failure.OutOfMemory t p h = tt
 
 -- If the script cannot be read, no session is loaded.
-pub script_unread : (stored : StoredFiles) (w : SessionWords) (program : List ℕ) (files : Host) (f : LoadFault) → w.typed ≡ None → IsProgramOf stored w program
+pub script_unread : (stored : StoredFiles) (w : SessionWords) (program : List ℕ) (files : Host) (f : Fault) → w.typed ≡ None → IsProgramOf stored w program
     → AreFromFolders stored w.files files → IsReadFaultIfAny (text_of w.console) f → FailsToLoad stored w f
 script_unread stored w program files f none of from h = by_path (text_of w.console) refl h where
-  by_fault : (path : Path) → text_of w.console ≡ Some path → (f : LoadFault) → IsReadFaultOf path f → FailsToLoad stored w f
-  by_fault path e (BadEscape text) h = absurd h
-  by_fault path e (CannotRead p) h = (rw none tt, inr ((program, of), (files, from), none, e ∙ ap Some (sym h)))
-  by_fault path e (Folders x) h = absurd h
-  by_fault path e (Refused n) h = absurd h
-  by_fault path e OutOfMemory h = tt
+  by_fault : (path : Path) → text_of w.console ≡ Some path → (f : Fault) → IsReadFaultOf path f → FailsToLoad stored w f
+  by_fault path e f (inl is) = rw is tt
+  by_fault path e f (inr (p, is, h)) = rw is (rw none tt, inr ((program, of), (files, from), none, e ∙ ap Some (sym h)))
 
   by_path : (o : Option Path) → text_of w.console ≡ o → IsReadFaultIfAny o f → FailsToLoad stored w f
   by_path None e h = absurd h

@@ -11,8 +11,8 @@ use Rattle.machine.specs.declared.session.TheConstants.{PROGRAM_LIMIT, SCRIPT_LI
 use Rattle.machine.specs.Inputs.{Session}
 use Rattle.machine.specs.Session.{session_or_refusal}
 use Rattle.loading.specs.Typed.{HasBadEscape, IsTyped}
-use Rattle.loading.specs.declared.fault.LoadFault.{LoadFault}
-use Rattle.loading.specs.declared.fault.LoadFault.TheVariants.{BadEscape, CannotRead, Folders, Refused, OutOfMemory}
+use Rattle.faults.specs.declared.fault.Fault.{Fault}
+use Rattle.faults.specs.declared.fault.Fault.TheVariants.{BadEscape, CannotRead, Folders, Refused, OutOfMemory}
 
 -- The bytes of a program: the file PROGRAM, of which at most one byte more is read than a session takes.
 abbrev pub IsProgramOf : StoredFiles → SessionWords → List ℕ → Type 0
@@ -53,27 +53,22 @@ pub record IsSessionRefusal (stored : StoredFiles) (w : SessionWords) (n : ℕ) 
   pub refused : session_or_refusal program w.tail.now files script w.limit ≡ Err n
 
 -- The result is this session or this refusal.
-abbrev pub MadeOrRefused : Result Session ℕ → Result Session LoadFault → Type 0
+abbrev pub MadeOrRefused : Result Session ℕ → Result Session Fault → Type 0
 MadeOrRefused wanted (Ok s) = wanted ≡ Ok s
-MadeOrRefused wanted (Err (Refused n)) = wanted ≡ Err n
-MadeOrRefused wanted (Err f) = ⊥
+MadeOrRefused wanted (Err f) = (n : ℕ) × (f ≡ Refused n) × (wanted ≡ Err n)
 
 -- Why the file of this path cannot be read.
-abbrev pub IsReadFaultOf : List ℕ → LoadFault → Type 0
-IsReadFaultOf path (CannotRead p) = p.now ≡ path
-IsReadFaultOf path OutOfMemory = Unit {0}
-IsReadFaultOf path f = ⊥
+abbrev pub IsReadFaultOf : List ℕ → Fault → Type 0
+IsReadFaultOf path f = (f ≡ OutOfMemory) ⊎ ((p : Bor (List ℕ)) × (f ≡ CannotRead p) × (p.now ≡ path))
 
 -- The same, if there is a path.
-abbrev pub IsReadFaultIfAny : Option (List ℕ) → LoadFault → Type 0
+abbrev pub IsReadFaultIfAny : Option (List ℕ) → Fault → Type 0
 IsReadFaultIfAny None f = ⊥
 IsReadFaultIfAny (Some path) f = IsReadFaultOf path f
 
 -- Why a text has no script.
-abbrev pub IsTypedFault : Bor (List ℕ) → LoadFault → Type 0
-IsTypedFault text (BadEscape t) = (t ≡ text) × HasBadEscape text.now
-IsTypedFault text OutOfMemory = Unit {0}
-IsTypedFault text f = ⊥
+abbrev pub IsTypedFault : Bor (List ℕ) → Fault → Type 0
+IsTypedFault text f = (f ≡ OutOfMemory) ⊎ ((f ≡ BadEscape text) × HasBadEscape text.now)
 
 -- The text, if there is one, has a script.
 abbrev pub HasTypedScript : SessionWords → Type 0
@@ -88,10 +83,11 @@ ReadsFolders files w = (host : Host) × AreFromFolders files w.files host
 
 -- Why no session is loaded: the text of the script has a bad escape; or because of the files of the words, which are read in this order:
 -- the program, the folders, and the script, if it has no text.
-abbrev pub FailsToLoad : StoredFiles → SessionWords → LoadFault → Type 0
+abbrev pub FailsToLoad : StoredFiles → SessionWords → Fault → Type 0
 FailsToLoad files w (BadEscape text) = (w.typed ≡ Some text) × HasBadEscape text.now
 FailsToLoad files w (CannotRead p) = HasTypedScript w
     × ((p.now ≡ w.program.now) ⊎ (ReadsProgram files w × ReadsFolders files w × (w.typed ≡ None) × (text_of w.console ≡ Some p.now)))
 FailsToLoad files w (Folders f) = HasTypedScript w × ReadsProgram files w × FailsFolders files w.files (AtFault f)
 FailsToLoad files w (Refused n) = IsSessionRefusal files w n
 FailsToLoad files w OutOfMemory = Unit {0}
+FailsToLoad files w f = ⊥

@@ -2,12 +2,9 @@
 //!
 //! - `loading`: reading the program, the host files and the script, and making the session
 //! - `typed`: a script as typed text
-//! - `fault`: why a session was not loaded
 #![tactic(auto)]
 
-mod fault;
 mod loading;
 mod typed;
 
-pub use fault::LoadFault;
 pub use loading::{Loaded, load, open};

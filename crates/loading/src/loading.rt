@@ -6,12 +6,12 @@ ghost use Rattle.folders.specs.DriveFolders.{AreListings};
 ghost use Rattle.folders.specs.Failures.{KeepsFiles, io_paths};
 ghost use Rattle.folders.specs.FileSystem.{Opens, ReadsFile};
 ghost use Rattle.machine.specs.Session.{session_or_refusal};
-ghost use Rattle.loading.specs.Faults.{load_paths};
+ghost use Rattle.faults.specs.Faults.{file_paths};
 ghost use Rattle.loading.specs.Loading.{IsLoadedFrom, IsScriptAt, IsScriptOf, IsTypedScript, MadeOrRefused, FailsToLoad, IsReadFaultOf, IsReadFaultIfAny};
 
-use crate::fault::LoadFault;
 use crate::typed::typed_script;
 use command_words::SessionWords;
+use faults::Fault;
 use folders::{FileSystem, Listing, read_folders};
 use hostfiles::HostFiles;
 use machine::{PROGRAM_LIMIT, SCRIPT_LIMIT, Session};
@@ -26,15 +26,15 @@ const PROGRAM_READ: u64 = PROGRAM_LIMIT as u64 + 1;
 /// The largest number of bytes of a script that are read: one more than a session takes.
 const SCRIPT_READ: u64 = SCRIPT_LIMIT as u64 + 1;
 
-/// Returns the `LoadFault` for an error of opening or reading this file.
-fn read_fault<'a>(error: io::Error, path: &'a str) -> LoadFault<'a>
+/// Returns the error of a program for an error of opening or reading this file.
+fn read_fault<'a>(error: io::Error, path: &'a str) -> Fault<'a>
     ensures fault { IsReadFaultOf path.now result }
-    ensures paths { load_paths result ≡ io_paths path.now error }
+    ensures paths { file_paths result ≡ io_paths path.now error }
 {
     if error.kind() == ErrorKind::OutOfMemory {
-        LoadFault::OutOfMemory
+        Fault::OutOfMemory
     } else {
-        LoadFault::CannotRead(path)
+        Fault::CannotRead(path)
     }
 }
 
@@ -43,12 +43,12 @@ fn read_fault<'a>(error: io::Error, path: &'a str) -> LoadFault<'a>
 /// # Errors
 ///
 /// Returns `Err` if the file cannot be opened or an allocation fails.
-pub fn open<'a, S: FileSystem>(system: &mut S, path: &'a str) -> Result<S::Input, LoadFault<'a>>
+pub fn open<'a, S: FileSystem>(system: &mut S, path: &'a str) -> Result<S::Input, Fault<'a>>
     ensures opens { IfOk result
         (λ input. Opens (S.files system.old).bytes path.now (S.Input.input input).left) }
     ensures unfailed { IfOk result (λ input. (S.Input.input input).failures ≡ 0) }
     ensures fault { IfErr result (IsReadFaultOf path.now) }
-    ensures unchanged { KeepsFiles load_paths result (S.files system.old) (S.files system.new) }
+    ensures unchanged { KeepsFiles file_paths result (S.files system.old) (S.files system.new) }
 {
     match system.open(path) {
         Ok(file) => Ok(file),
@@ -57,11 +57,11 @@ pub fn open<'a, S: FileSystem>(system: &mut S, path: &'a str) -> Result<S::Input
 }
 
 /// Reads the program at this path, which is no pipe.
-fn program_at<'a, S: FileSystem>(system: &mut S, path: &'a str) -> Result<Vec<u8>, LoadFault<'a>>
+fn program_at<'a, S: FileSystem>(system: &mut S, path: &'a str) -> Result<Vec<u8>, Fault<'a>>
     ensures program { IfOk result
         (λ program. ReadsFile (S.files system.old).bytes path.now (PROGRAM_LIMIT + 1) program.items) }
     ensures fault { IfErr result (IsReadFaultOf path.now) }
-    ensures unchanged { KeepsFiles load_paths result (S.files system.old) (S.files system.new) }
+    ensures unchanged { KeepsFiles file_paths result (S.files system.old) (S.files system.new) }
 {
     match system.read_unless_pipe(path, PROGRAM_READ) {
         Ok(program) => Ok(program),
@@ -70,14 +70,11 @@ fn program_at<'a, S: FileSystem>(system: &mut S, path: &'a str) -> Result<Vec<u8
 }
 
 /// Reads the script at this path, which may be a pipe; without a path it is empty.
-fn script_at<'a, S: FileSystem>(
-    system: &mut S,
-    path: Option<&'a str>,
-) -> Result<Vec<u8>, LoadFault<'a>>
+fn script_at<'a, S: FileSystem>(system: &mut S, path: Option<&'a str>) -> Result<Vec<u8>, Fault<'a>>
     ensures script { IfOk result
         (λ script. IsScriptAt (S.files system.old).bytes (text_of path.entry) script.items) }
     ensures fault { IfErr result (IsReadFaultIfAny (text_of path.entry)) }
-    ensures unchanged { KeepsFiles load_paths result (S.files system.old) (S.files system.new) }
+    ensures unchanged { KeepsFiles file_paths result (S.files system.old) (S.files system.new) }
 {
     let Some(path) = path else {
         return Ok(Vec::new(system.alloc()));
@@ -93,12 +90,12 @@ fn script_of<'a, S: FileSystem>(
     system: &mut S,
     words: &SessionWords<'a>,
     typed: Option<Vec<u8>>,
-) -> Result<Vec<u8>, LoadFault<'a>>
+) -> Result<Vec<u8>, Fault<'a>>
     requires { IsTypedScript words.now.typed (option_map (λ bytes. bytes.items) typed) }
     ensures script { IfOk result (λ script. IsScriptOf (S.files system.old) words.now script.items) }
     ensures fault { IfErr result
         (λ fault. (words.now.typed ≡ None) × IsReadFaultIfAny (text_of words.now.console) fault) }
-    ensures unchanged { KeepsFiles load_paths result (S.files system.old) (S.files system.new) }
+    ensures unchanged { KeepsFiles file_paths result (S.files system.old) (S.files system.new) }
 {
     match typed {
         Some(script) => Ok(script),
@@ -107,13 +104,13 @@ fn script_of<'a, S: FileSystem>(
 }
 
 /// Returns a copy of the command tail.
-fn tail_of<'a>(alloc: Global, words: &SessionWords<'a>) -> Result<Vec<u8>, LoadFault<'a>>
+fn tail_of<'a>(alloc: Global, words: &SessionWords<'a>) -> Result<Vec<u8>, Fault<'a>>
     ensures tail { IfOk result (λ tail. tail.items ≡ words.now.tail.now) }
-    ensures memory { IfErr result (λ fault. fault ≡ LoadFault.OutOfMemory) }
+    ensures memory { IfErr result (λ fault. fault ≡ Fault.OutOfMemory) }
 {
     match words.tail.as_bytes().to_vec(alloc) {
         Ok(tail) => Ok(tail),
-        Err(_) => Err(LoadFault::OutOfMemory),
+        Err(_) => Err(Fault::OutOfMemory),
     }
 }
 
@@ -124,12 +121,12 @@ fn session_of<'a>(
     files: HostFiles,
     script: Vec<u8>,
     limit: u64,
-) -> Result<Session, LoadFault<'a>>
+) -> Result<Session, Fault<'a>>
     ensures { MadeOrRefused (session_or_refusal program.items tail.items files script.items limit) result }
 {
     match Session::new(program, tail, files, script, limit) {
         Ok(session) => Ok(session),
-        Err(error) => Err(LoadFault::Refused(error.number())),
+        Err(error) => Err(Fault::Refused(error.number())),
     }
 }
 
@@ -152,13 +149,13 @@ pub struct Loaded {
 pub fn load<'a, S: FileSystem>(
     system: &mut S,
     words: &SessionWords<'a>,
-) -> Result<Loaded, LoadFault<'a>>
+) -> Result<Loaded, Fault<'a>>
     ensures session { IfOk result
         (λ loaded. IsLoadedFrom (S.files system.old) words.now loaded.session) }
     ensures names { IfOk result
         (λ loaded. AreListings (S.files system.old) words.now.files loaded.listings) }
     ensures fault { IfErr result (FailsToLoad (S.files system.old) words.now) }
-    ensures unchanged { KeepsFiles load_paths result (S.files system.old) (S.files system.new) }
+    ensures unchanged { KeepsFiles file_paths result (S.files system.old) (S.files system.new) }
 {
     let tail = tail_of(system.alloc(), words)?;
     let typed = typed_script(system.alloc(), words.typed)?;

@@ -4,7 +4,7 @@ ghost use Rattle.std.specs.Prelude.{◌≡◌, [], IfErr, IfOk, MatchOption, OnO
 ghost use Rattle.loading.specs.Typed as texts;
 ghost use Rattle.loading.specs.Loading.{IsTypedFault, IsTypedScript};
 
-use crate::fault::LoadFault;
+use faults::Fault;
 use hex::FromHex;
 use std::alloc::{AllocError, Global};
 
@@ -58,7 +58,7 @@ fn first_typed(text: &[u8]) -> Option<(u8, &[u8])>
 }
 
 // Returns the bytes of a text.
-fn typed_bytes<'a>(alloc: Global, text: &'a str) -> Result<Vec<u8>, LoadFault<'a>>
+fn typed_bytes<'a>(alloc: Global, text: &'a str) -> Result<Vec<u8>, Fault<'a>>
     ensures bytes { IfOk result (λ bytes. texts.Gives text.entry.now bytes.items []) }
     ensures fault { IfErr result (IsTypedFault text.entry) }
 {
@@ -66,10 +66,10 @@ fn typed_bytes<'a>(alloc: Global, text: &'a str) -> Result<Vec<u8>, LoadFault<'a
     let mut left = text.as_bytes();
     while !left.is_empty() {
         let Some((byte, rest)) = first_typed(left) else {
-            return Err(LoadFault::BadEscape(text));
+            return Err(Fault::BadEscape(text));
         };
         let Ok(()) = bytes.push(byte) else {
-            return Err(LoadFault::OutOfMemory);
+            return Err(Fault::OutOfMemory);
         };
         left = rest;
     }
@@ -87,10 +87,7 @@ fn end_line(bytes: &mut Vec<u8>) -> Result<(), AllocError>
 }
 
 /// Returns the script of a text, if there is one.
-pub fn typed_script<'a>(
-    alloc: Global,
-    text: Option<&'a str>,
-) -> Result<Option<Vec<u8>>, LoadFault<'a>>
+pub fn typed_script<'a>(alloc: Global, text: Option<&'a str>) -> Result<Option<Vec<u8>>, Fault<'a>>
     ensures script { IfOk result
         (λ script. IsTypedScript text.entry (option_map (λ bytes. bytes.items) script)) }
     ensures fault { IfErr result (λ fault. MatchOption text.entry ⊥ (λ t. IsTypedFault t fault)) }
@@ -101,6 +98,6 @@ pub fn typed_script<'a>(
     let mut bytes = typed_bytes(alloc, text)?;
     match end_line(&mut bytes) {
         Ok(()) => Ok(Some(bytes)),
-        Err(_) => Err(LoadFault::OutOfMemory),
+        Err(_) => Err(Fault::OutOfMemory),
     }
 }

@@ -26,8 +26,8 @@ abbrev pub seen_by : Noting → ℕ → Option ℕ
 seen_by Nothing seen = None
 seen_by Looks seen = Some seen
 
--- The state of the plain machine at the step of a run. The loaded state stands for none, which is never met: a run always has a state
--- at its step (`Run::step`, clause `at`).
+-- The state of the plain machine at the step of a run. A run always has one (`Run::step`, clause `at`), so that the loaded state in the place
+-- of none is never met.
 abbrev pub state_of : RunView → PlainState
 state_of r = unwrap_or (plain_after r.session r.step) (loaded_machine r.session)
 

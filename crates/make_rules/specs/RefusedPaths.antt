@@ -7,8 +7,8 @@ use Rattle.folders.specs.FileSystem.{Path}
 use Rattle.make_rules.specs.Carried.{is_carried}
 use Rattle.make_rules.specs.Files.{folder_path}
 use Rattle.folders.specs.declared.drive_folder.DriveFolder.{DriveFolder}
-use Rattle.make_rules.specs.declared.fault.RuleFault.{RuleFault}
-use Rattle.make_rules.specs.declared.fault.RuleFault.TheVariants.{RulePath, OutOfMemory}
+use Rattle.faults.specs.declared.fault.Fault.{Fault}
+use Rattle.faults.specs.declared.fault.Fault.TheVariants.{RulePath, OutOfMemory}
 
 -- Whether a rule cannot have the path of a file, or a folder, if there is one.
 abbrev pub is_refused : Option (Bor (List ℕ)) → Bool
@@ -38,17 +38,18 @@ abbrev pub refuses_words : SessionWords → Bool
 refuses_words w = list_any is_refused (Some w.program ∷ w.console ∷ []) || list_any is_refused_folder w.files
 
 -- An error for a path: that a rule cannot have it, or that there is no memory for it.
-abbrev pub IsRefused : Path → RuleFault → Type 0
+abbrev pub IsRefused : Path → Fault → Type 0
 IsRefused word (RulePath path) = string_bytes path ≡ word
 IsRefused word OutOfMemory = Unit {0}
+IsRefused word fault = ⊥
 
 -- An error for such a path.
-pub record IsRefusalOf (w : SessionWords) (path : Bor (List ℕ)) (written : List (Option (Bor (List ℕ)))) (fault : RuleFault) : Type 0 where
+pub record IsRefusalOf (w : SessionWords) (path : Bor (List ℕ)) (written : List (Option (Bor (List ℕ)))) (fault : Fault) : Type 0 where
   pub word : Bor (List ℕ)
   pub refused : (Contains (file_paths w path) (Some word) × (is_carried word.now ≡ false))
       ⊎ ((Contains w.files (Some word) ⊎ Contains written (Some word)) × (is_carried (folder_path word.now) ≡ false))
   pub is : IsRefused word.now fault
 
 -- Why the paths are not allowed: one of them is refused, or an allocation failed.
-abbrev pub FailsPaths : SessionWords → Bor (List ℕ) → List (Option (Bor (List ℕ))) → RuleFault → Type 0
+abbrev pub FailsPaths : SessionWords → Bor (List ℕ) → List (Option (Bor (List ℕ))) → Fault → Type 0
 FailsPaths w path written fault = ((refuses_rule w path written ≡ true) × IsRefusalOf w path written fault) ⊎ (fault ≡ OutOfMemory)

@@ -7,7 +7,7 @@ ghost use Rattle.make_rules.specs.Escapes.{argument, doubled, escaped, marks, pr
 use std::alloc::AllocError;
 
 /// Appends a path as a rule has it: blanks and `#` after a backslash and with the backslashes before them doubled, `$` doubled.
-pub fn push_escaped(text: &mut Vec<u8>, path: &[u8]) -> Result<(), AllocError>
+pub fn push_make_path(text: &mut Vec<u8>, path: &[u8]) -> Result<(), AllocError>
     ensures { OnOk result (text.new.items ≡ text.old.items ++ escaped path.now) }
 {
     let mut slashes = 0;
@@ -61,7 +61,7 @@ pub fn push_prerequisites(text: &mut Vec<u8>, paths: &[String]) -> Result<(), Al
 {
     for path in paths {
         text.push(b' ')?;
-        push_escaped(text, path.as_bytes())?;
+        push_make_path(text, path.as_bytes())?;
     }
     Ok(())
 }

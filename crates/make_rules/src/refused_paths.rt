@@ -7,8 +7,8 @@ ghost use Rattle.make_rules.specs.Files.{folder_path};
 ghost use Rattle.make_rules.specs.RefusedPaths as texts;
 
 use crate::carried::is_carried;
-use crate::fault::RuleFault;
 use command_words::SessionWords;
+use faults::Fault;
 use folders::path_in;
 use std::alloc::{AllocError, Global};
 
@@ -67,12 +67,12 @@ fn refused_folder<'a>(
 }
 
 // Returns the error for a path that a rule cannot have.
-fn refusal(alloc: Global, path: &str) -> RuleFault
+fn refusal<'a>(alloc: Global, path: &str) -> Fault<'a>
     ensures { texts.IsRefused path.now result }
 {
     match String::from_str(alloc, path) {
-        Ok(path) => RuleFault::RulePath(path),
-        Err(_) => RuleFault::OutOfMemory,
+        Ok(path) => Fault::RulePath(path),
+        Err(_) => Fault::OutOfMemory,
     }
 }
 
@@ -82,12 +82,12 @@ fn refusal(alloc: Global, path: &str) -> RuleFault
 /// # Errors
 ///
 /// Returns `Err` with a path that it cannot have, or if an allocation fails.
-pub fn check_paths(
+pub fn check_paths<'a>(
     alloc: Global,
     words: &SessionWords<'_>,
     path: &str,
     written: &[Option<&str>],
-) -> Result<(), RuleFault>
+) -> Result<(), Fault<'a>>
     ensures allowed { IfOk result (λ _. texts.refuses_rule words.now path.entry written.now ≡ false) }
     ensures refused { IfErr result (texts.FailsPaths words.now path.entry written.now) }
 {

@@ -12,7 +12,7 @@ ghost use Rattle.make_rules.specs.RunRules.{IsRule};
 ghost use Rattle.make_rules.specs.Paths.{ArePathsOf, line_of};
 ghost use Rattle.make_rules.specs.RefusedPaths.{is_refused_drive, refuses_words};
 
-use crate::escapes::{push_arguments, push_escaped, push_prerequisites};
+use crate::escapes::{push_arguments, push_make_path, push_prerequisites};
 use crate::files::{push_files, push_folders};
 use crate::missing::{is_target, push_absent_folders, push_absent_lines, push_missing_files};
 use command_words::SessionWords;
@@ -115,7 +115,7 @@ fn push_targets(text: &mut Vec<u8>, targets: &[String]) -> Result<(), AllocError
     let Some(first) = targets.first() else {
         return Ok(());
     };
-    push_escaped(text, first.as_bytes())?;
+    push_make_path(text, first.as_bytes())?;
     push_prerequisites(text, &targets[1..])
 }
 
@@ -136,7 +136,7 @@ fn push_line(text: &mut Vec<u8>, targets: &[String], paths: &Paths) -> Result<()
 fn push_empty_rule(text: &mut Vec<u8>, path: &str) -> Result<(), AllocError>
     ensures { OnOk result (text.new.items ≡ text.old.items ++ texts.empty_rule path.now) }
 {
-    push_escaped(text, path.as_bytes())?;
+    push_make_path(text, path.as_bytes())?;
     text.extend_from_slice(b":\n")
 }
 

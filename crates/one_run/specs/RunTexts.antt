@@ -1,5 +1,5 @@
 -- What a run writes, and its status. (This project's profile.)
-use Rattle.std.specs.Prelude.{ℕ, Bool, not, ◌&&◌, if◌then◌else◌, ◌++◌, [], ◌∷◌, List, codes, is_some, map, take}
+use Rattle.std.specs.Prelude.{ℕ, Bool, not, ◌&&◌, if◌then◌else◌, ◌++◌, [], ◌∷◌, List, codes, is_some, map}
 use Rattle.std.specs.FinMap.{contains_key}
 use Rattle.std.specs.List.{concat, list_any}
 use Rattle.filenames.specs.Names.{display_text}
@@ -14,10 +14,7 @@ use Rattle.machine.specs.PlainFiles.{Files}
 use Rattle.machine.specs.PlainState.{plain_run}
 use Rattle.report_lines.specs.ChangedLines.{gone_lines}
 use Rattle.report_lines.specs.FirstLines.{line, stop_line}
-use Rattle.streams.specs.Streams.{Output, WritesPart, WritesWhole}
 use Rattle.one_run.specs.Planned.{is_on_disk}
-use Rattle.one_run.specs.declared.fault.RunFault.{RunFault}
-use Rattle.one_run.specs.declared.fault.RunFault.TheVariants.{CannotWrite, OutOfMemory}
 
 -- The exit status after a run that stopped by this cause.
 abbrev pub stop_status : Cause → ℕ
@@ -62,8 +59,3 @@ stop_lines p changes cause host files =
 
 abbrev pub stop_text : Places → Bool → Session → List ℕ
 stop_text p changes s = stop_lines p changes (plain_run s).cause s.files (plain_run s).state.files
-
--- What was written of the console text before an error: a prefix of it, if writing it or an allocation failed.
-abbrev pub BreaksText : List ℕ → Output → Output → RunFault → Type 0
-BreaksText text old new CannotWrite = WritesPart old new text
-BreaksText text old new OutOfMemory = (count : ℕ) × WritesWhole old new (take count text)

@@ -3,15 +3,12 @@
 //! - `running`: the run, whose console text is written while it runs
 //! - `planning`: what is to be done with its changed files
 //! - `reporting`: its stop, and what became of the files
-//! - `fault`: why its console text was not written in full
 #![tactic(auto)]
 
-mod fault;
 mod planning;
 mod reporting;
 mod running;
 
-pub use fault::RunFault;
 pub use planning::{Changes, Turn};
 pub use reporting::{report_stop, stop_status};
 pub use running::run_to_end;

@@ -6,9 +6,10 @@ ghost use Rattle.machine.specs.Runs.{EndsBy, NotesWholeRun, asked_by};
 ghost use Rattle.machine.specs.declared.noting.Noting.TheVariants.{Looks};
 ghost use Rattle.streams.specs.Pushing.{PushesUnless, more};
 ghost use Rattle.streams.specs.Streams.{WritesWhole};
-ghost use Rattle.one_run.specs.RunTexts.{BreaksText, console_text};
+ghost use Rattle.faults.specs.Faults.{BreaksText};
+ghost use Rattle.one_run.specs.RunTexts.{console_text};
 
-use crate::fault::RunFault;
+use faults::Fault;
 use machine::{Cause, Noting, Run, STEP_LIMIT, Session, WholeRun};
 use std::alloc::{AllocError, Global};
 use streams::{STEPS_UNTIL_TEXT, Text, TextOver, Writer};
@@ -37,12 +38,12 @@ fn push_more<X: Text, E: Writer>(
 }
 
 // Runs to a stop, which it returns, or to the limit, and writes the console text. If writing fails, the run ends early.
-fn write_console<O: Writer, E: Writer>(
+fn write_console<'a, O: Writer, E: Writer>(
     run: &mut Run<'_>,
     limit: u64,
     out: &mut O,
     err: &mut E,
-) -> Result<Option<Cause>, RunFault>
+) -> Result<Option<Cause>, Fault<'a>>
     requires low { run.old.step ≤ limit }
     requires limit { limit ≡ run.old.session.limit }
     requires most { limit ≤ STEP_LIMIT }
@@ -101,13 +102,13 @@ fn push_console<X: Text, E: Writer>(
 /// # Errors
 ///
 /// Returns `Err` if writing to `out` fails, or an allocation: a prefix of the text is then written.
-pub fn run_to_end<'s, O: Writer, E: Writer>(
+pub fn run_to_end<'s, 'a, O: Writer, E: Writer>(
     alloc: Global,
     session: &'s Session,
     noting: Noting,
     out: &mut O,
     err: &mut E,
-) -> Result<WholeRun<'s>, RunFault>
+) -> Result<WholeRun<'s>, Fault<'a>>
     ensures session { IfOk result (λ w. w.session.now ≡ session.now) }
     ensures cold { IfOk result (λ w. cold_run session.now
         ≡ record { state = w.state.state; steps = w.steps; cause = w.cause }) }

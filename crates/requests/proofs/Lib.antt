@@ -1,2 +1,1 @@
-mod Messages
-pub mod Statuses
+pub mod Ending

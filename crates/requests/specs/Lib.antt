@@ -1,3 +1,2 @@
-pub mod FaultReports
 pub mod Requests
-pub mod RuleFaults
+pub mod Programs

@@ -1,20 +1,20 @@
 -- The request in the words of a command line. (This project's own.)
-use Rattle.std.specs.Prelude.{◌≡◌, ◌⊎◌, ℕ, List, Result, Some, string_bytes}
+use Rattle.std.specs.Prelude.{◌≡◌, ◌⊎◌, ◌++◌, ℕ, List, Result, Some, codes, string_bytes}
 use Rattle.command_words.specs.Clashes.{Check, first_failed, names_in}
 use Rattle.command_words.specs.declared.clashes.Clash.{Clash}
+use Rattle.command_words.specs.declared.clashes.Clash.TheVariants.{Both, SameFolder, Missing}
 use Rattle.command_words.specs.declared.words.SessionWords.{SessionWords}
 use Rattle.command_words.specs.declared.error_classes.ErrorClass.{ErrorClass}
 use Rattle.command_words.specs.declared.error_classes.ErrorClass.TheVariants as outcome
 use Rattle.loading.specs.Loading.{FailsToLoad}
-use Rattle.loading.specs.declared.fault.LoadFault.{LoadFault}
 use Rattle.one_run.specs.World.{World}
 use Rattle.streams.specs.Streams.{Output, WritesPart, WritesText}
-use Rattle.requests.specs.FaultReports.{clash_reason, of_load, usage_text}
+use Rattle.faults.specs.Faults.{usage_text}
 use Rattle.requests.specs.declared.request.Request.{Request}
 use Rattle.requests.specs.declared.request.Request.TheVariants.{Session, Information}
-use Rattle.requests.specs.declared.fault.Fault.{Fault}
-use Rattle.requests.specs.declared.fault.Fault.TheVariants.{Usage, CannotWrite, OutOfMemory}
-use Rattle.requests.specs.declared.tool.Tool.{Tool}
+use Rattle.faults.specs.declared.fault.Fault.{Fault}
+use Rattle.faults.specs.declared.fault.Fault.TheVariants.{Usage, CannotWrite, OutOfMemory}
+use Rattle.faults.specs.declared.tool.Tool.{Tool}
 
 -- The request: a session, or help or the version. `Are` holds for the words of the session, and `Has` for the classes of the errors
 -- that the words can have.
@@ -33,6 +33,12 @@ abbrev pub IsUsageError : List ℕ → Fault → Type 0
 IsUsageError message (Usage text) = string_bytes text ≡ message
 IsUsageError message OutOfMemory = Unit {0}
 IsUsageError message fault = ⊥
+
+-- The reason if two options exclude each other, or an option needs one that was not given.
+abbrev pub clash_reason : Clash → List ℕ
+clash_reason (Both first second) = codes "the argument '" ++ first.now ++ codes "' cannot be used with '" ++ second.now ++ codes "'"
+clash_reason (SameFolder first second) = codes "the argument '" ++ first.now ++ codes "' cannot be used with '" ++ second.now ++ codes "': both are the same folder"
+clash_reason (Missing option) = codes "the following required arguments were not provided:\n  " ++ option.now
 
 -- Two options of the words exclude each other, or one needs another that is not given, by the first of these checks that fails. `Are` holds
 -- for the values of the words.
@@ -62,4 +68,4 @@ FailsToInform Has before after fault =
 
 -- The session that the words describe could not be loaded, for this error, and nothing was written.
 abbrev pub FailsToLoadSession : SessionWords → World → World → Fault → Type 0
-FailsToLoadSession w before after fault = (f : LoadFault) × (fault ≡ of_load f) × FailsToLoad before.files w f × WritesNothing before after
+FailsToLoadSession w before after fault = FailsToLoad before.files w fault × WritesNothing before after

@@ -1,14 +1,11 @@
-//! What each program makes of its command line: the request in the words, and the errors with which it ends.
+//! The request that a program has in the words of its command line, and how it ends.
 //!
-//! - `request`: the request in the words of a command line
-//! - `fault`, `shown`, `tool`: the errors, with their statuses and messages; lines of messages; the programs whose names they begin with
+//! - `request`: the request
 #![tactic(auto)]
 
-mod fault;
 mod request;
-mod shown;
-mod tool;
 
-pub use fault::{Fault, report_fault};
-pub use request::{Request, clash_fault, print_information, request_of_error, taken_fault};
-pub use tool::Tool;
+pub use faults::{Fault, Tool, report_fault};
+pub use request::{
+    Request, clash_fault, print_information, program_words, request_of_error, taken_fault,
+};

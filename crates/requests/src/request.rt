@@ -1,14 +1,30 @@
 // The request in the words of a command line.
 
-ghost use Rattle.std.specs.Prelude.{◌≡◌, IfOk, IfErr, string_bytes};
-ghost use Rattle.requests.specs.FaultReports.{clash_reason, usage_text, value_text};
-ghost use Rattle.requests.specs.Requests.{FailsToParse, IsRequestOf, IsUsageError, WritesSomeText};
+ghost use Rattle.std.specs.Prelude.{◌≡◌, ◌⊎◌, IfOk, IfErr, string_bytes};
+ghost use Rattle.faults.specs.Faults.{usage_text, value_text};
+ghost use Rattle.requests.specs.Requests.{FailsToParse, IsRequestOf, IsUsageError, WritesSomeText, clash_reason};
 
-use crate::fault::{Fault, value_text};
-use crate::tool::Tool;
 use command_words::{Clash, ErrorClass};
+use faults::{Fault, Tool, value_text};
 use std::alloc::{AllocError, Global};
+use std::env::{self, Env};
+use std::io::ErrorKind;
 use streams::{Writer, write_all};
+
+/// Returns the words after the name of a program.
+///
+/// # Errors
+///
+/// Returns `Err` if a word is not UTF-8, which is a usage error, or if an allocation fails.
+pub fn program_words<'a, R: Alloc<A = Global> + Env>(rt: &R) -> Result<Vec<String>, Fault<'a>>
+    ensures { IfErr result (λ fault. (fault ≡ Fault.NotText) ⊎ (fault ≡ Fault.OutOfMemory)) }
+{
+    match env::args(rt) {
+        Ok(args) => Ok(args.skip(1).collect::<Vec<String>>(rt.alloc())?),
+        Err(error) if error.kind() == ErrorKind::OutOfMemory => Err(Fault::OutOfMemory),
+        Err(_) => Err(Fault::NotText),
+    }
+}
 
 /// The request in words that are no usage error.
 #[derive(Drop)]

@@ -7,7 +7,7 @@ use Rattle.std.specs.Result.{result_ok}
 use Rattle.std.specs.Str.Parse.{digits_value}
 use Rattle.command_words.specs.declared.trace_words.TraceWords.{TraceWords}
 use Rattle.filenames.specs.Names.{Key, name_of}
-use Rattle.requests.specs.FaultReports.{value_text}
+use Rattle.faults.specs.Faults.{value_text}
 use Rattle.trials.specs.declared.ranges.CellRange.{CellRange}
 use Rattle.trace_filters.specs.declared.choice.Choice.{Choice}
 use Rattle.trace_command.specs.declared.choice.BadValue.{BadValue}

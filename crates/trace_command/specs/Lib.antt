@@ -1,3 +1,3 @@
 pub mod AreTraceWords
 pub mod Choices
-pub mod TraceEnds
+pub mod Program

@@ -11,5 +11,5 @@ mod request;
 
 pub use command_line::trace_command;
 pub use folders::{FileSystem, SystemFiles};
-pub use requests::{Fault, Tool, report_fault};
+pub use requests::{Fault, Tool, program_words, report_fault};
 pub use streams::{Over, Writer};

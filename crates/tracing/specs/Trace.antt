@@ -1,17 +1,14 @@
 -- The trace of a session: the lines of its chosen steps, and then its stop. (This project's profile.)
-use Rattle.std.specs.Prelude.{ℕ, false, ◌-◌, List, [], ◌∷◌, ◌++◌, flat_map, length, take, drop, if◌then◌else◌, Option, Some, None}
+use Rattle.std.specs.Prelude.{ℕ, false, ◌-◌, List, [], ◌∷◌, ◌++◌, flat_map, length, drop, if◌then◌else◌, Option, Some, None}
 use Rattle.std.specs.List.{concat, range_with_len}
 use Rattle.machine.specs.Inputs.{Session}
 use Rattle.machine.specs.PlainLaid.{plain_after}
 use Rattle.machine.specs.PlainState.{PlainState, plain_outcome, plain_run}
 use Rattle.report_lines.specs.FirstLines.{stop_line}
-use Rattle.streams.specs.Streams.{Output, WritesPart, WritesWhole}
 use Rattle.trace_filters.specs.Chosen.{has_line, is_call}
 use Rattle.trace_filters.specs.declared.choice.Choice.{Choice}
 use Rattle.trace_lines.specs.CallLines.{call_line}
 use Rattle.trace_lines.specs.StepLines.{step_line}
-use Rattle.tracing.specs.declared.fault.TraceFault.{TraceFault}
-use Rattle.tracing.specs.declared.fault.TraceFault.TheVariants.{CannotWrite, OutOfMemory}
 
 -- The line of a step, which leads to another state or stops the run.
 unfoldable pub line_of : Session → ℕ → PlainState → List ℕ
@@ -51,8 +48,3 @@ each_call = record {
   file = None;
   last = None;
 }
-
--- What was written before an error: a prefix of the text.
-abbrev pub BreaksTrace : List ℕ → TraceFault → Output → Output → Type 0
-BreaksTrace text CannotWrite old new = WritesPart old new text
-BreaksTrace text OutOfMemory old new = (count : ℕ) × WritesWhole old new (take count text)

@@ -4,11 +4,12 @@ ghost use Rattle.std.specs.Prelude.{◌≡◌, ◌-◌, IfErr, IfOk, OnOk, drop,
 ghost use Rattle.machine.specs.PlainState.{plain_run};
 ghost use Rattle.streams.specs.Pushing.{PushesUnless};
 ghost use Rattle.streams.specs.Streams.{WritesWhole};
-ghost use Rattle.tracing.specs.Trace.{BreaksTrace, all_lines, each_call, last_lines, trace_text};
+ghost use Rattle.faults.specs.Faults.{BreaksText};
+ghost use Rattle.tracing.specs.Trace.{all_lines, each_call, last_lines, trace_text};
 ghost use Rattle.tracing.specs.Walks.{IsEnd, text_after};
 
-use crate::fault::TraceFault;
 use crate::walk::{Walker, walk};
+use faults::Fault;
 use machine::{Cause, Noting, Run, Session};
 use report_lines::stop_line;
 use std::alloc::{AllocError, Global};
@@ -116,16 +117,16 @@ fn push_trace<X: Text>(
 /// # Errors
 ///
 /// Returns `Err` if the writer or an allocation fails. A prefix of the text is then written.
-pub fn write_trace<W: Writer>(
+pub fn write_trace<'a, W: Writer>(
     alloc: Global,
     session: &Session,
     choice: &Choice,
     out: &mut W,
-) -> Result<(), TraceFault>
+) -> Result<(), Fault<'a>>
     ensures done { OnOk result
         (WritesWhole (W.output out.old) (W.output out.new) (trace_text choice.now session.now)) }
-    ensures fault { IfErr result (λ fault.
-        BreaksTrace (trace_text choice.now session.now) fault (W.output out.old) (W.output out.new)) }
+    ensures fault { IfErr result
+        (BreaksText (trace_text choice.now session.now) (W.output out.old) (W.output out.new)) }
 {
     let mut text = TextOver::new(out);
     let pushed = push_trace(alloc, session, choice, &mut text);

@@ -1,7 +1,13 @@
 use Rattle.std.proofs.Common.{arith, refl, inr, ap, ◌∷◌, ◌∙◌, Err}
+use Rattle.std.proofs.lemmas.Result.{err_from_is_err_and}
 use Rattle.edit_lines.specs.declared.ending.ReplayFault.TheVariants as replay_fault
-use Rattle.cpmrun.proofs.Writing.{breaks_file, writes_file}
+use Rattle.cpmrun.proofs.Writing.{breaks_file, unopened, writes_file}
 use Rattle.cpmrun.proofs.command_line.replay_file.Goals as goal
+
+pub returns-in_err-edits-clause-fault : goal.returns-in_err-edits-clause-fault
+returns-in_err-edits-clause-fault g c =
+    let left = err_from_is_err_and c.from_residual.result c.from_residual.ensures.1 in
+    rw (left.1, left.2) (unopened _ _ _ _ _ c.in_err-edits.ensures.fault)
 
 pub returns-in-Ok-clause-done : goal.returns-in-Ok-clause-done
 returns-in-Ok-clause-done g c =

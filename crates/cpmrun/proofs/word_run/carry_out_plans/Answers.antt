@@ -1,4 +1,4 @@
-use Rattle.std.proofs.Common.{◌∙◌, Err, Ok, ap, inl, inr, refl}
+use Rattle.std.proofs.Common.{◌∙◌, Err, Ok, inl, inr, refl}
 use Rattle.std.specs.Option.{option_map}
 use Rattle.std.proofs.lemmas.Result.{err_from_is_err_and}
 use Rattle.folders.proofs.FilesLemmas.{same_files}

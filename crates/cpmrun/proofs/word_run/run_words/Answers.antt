@@ -7,33 +7,35 @@ pub returns-in_err-loaded-clause-fault : goal.returns-in_err-loaded-clause-fault
 returns-in_err-loaded-clause-fault g c =
     let left = err_from_is_err_and c.from_residual-in_err-loaded.result c.from_residual-in_err-loaded.ensures.1 in
     let same = same_files c.in_ok-_locks.ensures.unchanged in
-    rw (left.1, left.2) (λ old new. inr (inl (
-      c.in_err-loaded.field-0.0,
-      refl,
-      (rw (same, c.session.ensures) at c.in_err-loaded.ensures.fault),
-      (refl, (rw same at c.in_err-loaded.ensures.unchanged.bytes)),
-    )))
+    rw (left.1, left.2) (λ old new. inr (
+      c.in_ok-check_rule.ensures.allowed,
+      inl ((rw (same, c.session.ensures) at c.in_err-loaded.ensures.fault), (refl, (rw same at c.in_err-loaded.ensures.unchanged.bytes))),
+    ))
 
 pub returns-clause-done : goal.returns-clause-done
 returns-clause-done g c =
     let first = same_files c.in_ok-_locks.ensures.unchanged in
     let same = same_files c.in_ok-loaded.ensures.unchanged in
     IfOk-weaker c.run_loaded.result _ _ (λ status h. record {
+      allowed = c.in_ok-check_rule.ensures.allowed;
       s = c.in_ok-loaded.loaded.session;
       listings = c.in_ok-loaded.loaded.listings;
       of = rw (first, c.session.ensures) at c.in_ok-loaded.ensures.session;
       listed = rw (first, c.session.ensures) at c.in_ok-loaded.ensures.names;
-      runs = rw (same, first) at h;
+      answers = rw (same, first) at h;
     }) c.run_loaded.ensures.done
 
 pub returns-clause-fault : goal.returns-clause-fault
 returns-clause-fault g c =
     let first = same_files c.in_ok-_locks.ensures.unchanged in
     let same = same_files c.in_ok-loaded.ensures.unchanged in
-    IfErr-weaker c.run_loaded.result _ _ (λ fault h old new. inr (inr (
-      c.in_ok-loaded.loaded.session,
-      c.in_ok-loaded.loaded.listings,
-      (rw (first, c.session.ensures) at c.in_ok-loaded.ensures.session),
-      (rw (first, c.session.ensures) at c.in_ok-loaded.ensures.names),
-      (rw (same, first) at (h old new)),
-    ))) c.run_loaded.ensures.fault
+    IfErr-weaker c.run_loaded.result _ _ (λ fault h old new. inr (
+      c.in_ok-check_rule.ensures.allowed,
+      inr (
+        c.in_ok-loaded.loaded.session,
+        c.in_ok-loaded.loaded.listings,
+        (rw (first, c.session.ensures) at c.in_ok-loaded.ensures.session),
+        (rw (first, c.session.ensures) at c.in_ok-loaded.ensures.names),
+        (rw (same, first) at (h old new)),
+      ),
+    )) c.run_loaded.ensures.fault

@@ -1,0 +1,12 @@
+//! The errors of the programs, with their statuses and messages.
+//!
+//! - `fault`: the errors
+//! - `shown`, `tool`: the lines of their messages; the programs whose names they begin with
+#![tactic(auto)]
+
+mod fault;
+mod shown;
+mod tool;
+
+pub use fault::{Fault, report_fault, value_text};
+pub use tool::Tool;
