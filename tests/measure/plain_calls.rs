@@ -1,6 +1,6 @@
 // A plain machine with the calls of CP/M, that of tests/random/model: one array of memory, whole files, and nothing recorded of what was
-// read or written. Called with a program, the folder of the files of drive A, a script, a folder for changed files and a limit of steps,
-// it runs the program once, as `cpmrun` does it.
+// read or written. Called with a program, the folder of the files of drive A, a script, a folder for changed files, a limit of steps and
+// perhaps a command tail, it runs the program once, as `cpmrun` does it.
 #![allow(dead_code, unused_imports)]
 
 #[path = "../random"]
@@ -31,12 +31,12 @@ fn files(folder: &Path) -> Result<Files, Error> {
 
 fn main() -> Result<(), Error> {
     let words: Vec<String> = env::args().collect();
-    let [_, program, folder, script, out, limit] = &words[..] else {
-        return Err(Error::other("plain_calls PROGRAM FILES SCRIPT OUT LIMIT"));
+    let [_, program, folder, script, out, limit, tail @ ..] = &words[..] else {
+        return Err(Error::other("plain_calls PROGRAM FILES SCRIPT OUT LIMIT [TAIL]"));
     };
     let limit = limit.parse().map_err(Error::other)?;
-    let session =
-        Session { program: fs::read(program)?, tail: Vec::new(), hosts: files(folder.as_ref())?, script: fs::read(script)?, limit };
+    let tail = tail.join(" ").into_bytes();
+    let session = Session { program: fs::read(program)?, tail, hosts: files(folder.as_ref())?, script: fs::read(script)?, limit };
     let mut state = State::load(&session);
     let (_, cause) = state.run(&session, &mut ());
     std::io::stdout().write_all(state.text())?;

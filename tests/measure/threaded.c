@@ -1,6 +1,7 @@
 // A fast interpreter of the 8080 in gcc's C: each instruction ends with a jump through a table of 256 labels, registers and flags are
 // local variables, flags come from tables, and nothing is recorded of what was read or written. Called with a program and a limit of
-// steps, as tests/measure/flat.rs is, it executes at most that many and prints the same two lines.
+// steps, as tests/measure/flat.rs is, it executes at most that many and prints the same two lines. Compiled with -DCALLS, it makes calls
+// of CP/M too, and its words and what it writes are those of tests/measure/threaded_calls.h.
 #define _GNU_SOURCE
 #include <stdint.h>
 #include <stdio.h>
@@ -10,6 +11,13 @@
 
 enum { CY = 1, BIT_1 = 2, P = 4, AC = 16, Z = 64, S = 128, ALL = S | Z | AC | P | CY };
 enum { SIZE = 65536, START = 0x100 };
+
+#ifdef CALLS
+#include "threaded_calls.h"
+#else
+#define USAGE "threaded takes a program and a limit of steps\n"
+enum { WORDS = 3, LIMIT = 2 };
+#endif
 
 // By a result: its flags S, Z and P; these and the AC of an INR or of a DCR.
 static uint8_t signs[256], incremented[256], decremented[256];
@@ -139,17 +147,20 @@ int main(int count, char **words) {
         &&rp, &&pop_psw, &&jp, &&nop, &&cp, &&push_psw, &&ori, &&rst_6,
         &&rm, &&sphl, &&jm, &&nop, &&cm, &&stop, &&cpi, &&rst_7,
     };
-    if (count != 3) {
-        fputs("threaded takes a program and a limit of steps\n", stderr);
+    if (count != WORDS) {
+        fputs(USAGE, stderr);
         return 1;
     }
     uint8_t *const cells = map_memory();
     load(cells, words[1]);
+#ifdef CALLS
+    prepare(cells, words);
+#endif
     fill_tables();
     uint8_t a = 0, b = 0, c = 0, d = 0, e = 0, h = 0, l = 0, f = 0;
     uint16_t sp = 0xfdfe, pc = START;
     // One more than the steps that are left.
-    const uint64_t limit = strtoull(words[2], NULL, 10);
+    const uint64_t limit = strtoull(words[LIMIT], NULL, 10);
     uint64_t left = limit + 1;
     NEXT;
 
@@ -186,7 +197,21 @@ int main(int count, char **words) {
     // HLT, and a byte that is no opcode.
 stop:
     pc--;
+#ifdef CALLS
+    if (pc == ENTRY) {
+        int value = call_number(cells, c, PAIR(d, e));
+        if (value >= 0) {
+            b = h = value >> 8, a = l = value;
+            POP_PC;
+            NEXT;
+        }
+        cause = value;
+    }
+end:
+    finish(words[4], pc, limit - left);
+#else
 end:
     printf("steps %llu\n", (unsigned long long)(limit - left));
     printf("regs A=%02X F=%02X B=%02X C=%02X D=%02X E=%02X H=%02X L=%02X SP=%04X PC=%04X\n", a, f | BIT_1, b, c, d, e, h, l, sp, pc);
+#endif
 }
