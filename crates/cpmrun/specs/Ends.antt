@@ -62,10 +62,11 @@ replay_edits IsReplayed w path = record {
   session = session_words w;
   Refuses = λ fault. ⊥;
   Allows = Unit {0};
-  Answers = λ s listings status before after.
-      (status ≡ 0) × (after.err ≡ before.err) × (after.files.bytes ≡ before.files.bytes) × IsReplayed w s (text_at before.files.bytes path) before.out after.out;
-  Breaks = λ s listings before after fault.
-      BreaksReplay path (text_at before.files.bytes path) s before.out after.out fault × (after.files.bytes ≡ before.files.bytes);
+  act = λ s listings. record {
+    Does = λ before after. (after.err ≡ before.err) × (after.files.bytes ≡ before.files.bytes) × IsReplayed w s (text_at before.files.bytes path) before.out after.out;
+    Leaves = λ before after fault. BreaksReplay path (text_at before.files.bytes path) s before.out after.out fault × (after.files.bytes ≡ before.files.bytes);
+  };
+  status = λ s. 0;
 }
 
 -- The words ask for that if they name edit lines, and otherwise for one run.

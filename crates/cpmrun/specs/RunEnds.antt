@@ -1,5 +1,5 @@
 -- One run of the session of the words: what it writes and changes, its status, and what an error leaves. (This project's profile.)
-use Rattle.std.specs.Prelude.{◌≡◌, ℕ, ◌⊎◌, ◌||◌, ◌&&◌, ◌++◌, Bool, true, false, if◌then◌else◌, List, Option, Result, MatchOption, Ok, Err, is_some, map}
+use Rattle.std.specs.Prelude.{◌≡◌, ◌⊎◌, ◌||◌, ◌&&◌, ◌++◌, Bool, true, false, if◌then◌else◌, List, Option, Result, MatchOption, Ok, Err, is_some, map}
 use Rattle.std.specs.List.{list_any}
 use Rattle.command_words.specs.RunLine.{session_words}
 use Rattle.command_words.specs.declared.words.Words.{Words}
@@ -20,18 +20,16 @@ use Rattle.machine.specs.PlainState.{plain_run}
 use Rattle.make_rules.specs.RefusedPaths.{FailsPaths}
 use Rattle.one_run.specs.Planned.{places_at, planned}
 use Rattle.one_run.specs.RunTexts.{console_text, stop_status, stop_text}
-use Rattle.one_run.specs.World.{World}
 use Rattle.one_run.specs.declared.planning.Turn.TheVariants.{Outside, New, Replacing, Gone}
 use Rattle.plan.specs.Carries.{Carries, CarriesEach}
 use Rattle.plan.specs.Faults.{IsAnyWriteFault}
 use Rattle.plan.specs.Wanted.{Wanted, wanted_of}
 use Rattle.plan.specs.declared.deed.Deed.{Deed}
-use Rattle.faults.specs.Faults.{BreaksText, of_failure}
+use Rattle.faults.specs.Faults.{of_failure}
+use Rattle.requests.specs.Acts.{Act, and_then, checked, print, report, with_some}
 use Rattle.requests.specs.Programs.{Task}
-use Rattle.requests.specs.Requests.{WritesNothing}
 use Rattle.faults.specs.declared.fault.Fault.{Fault}
 use Rattle.faults.specs.declared.fault.Fault.TheVariants.{CannotWrite, DiskUnchanged}
-use Rattle.streams.specs.Streams.{WritesOrFails, WritesWhole}
 use Rattle.cpmrun.specs.Reports.{AllowsRule, IsEarly, IsElsewhere, IsPlanFault, IsRuleOf, IsTraceOf, Told, put_paths, report_part, rule_path, written_folders}
 
 -- Whether the run changes the disks: it stopped by the warm start, or the words ask for it whatever the stop.
@@ -114,16 +112,6 @@ BreaksChanges w listings s p before after fault =
     (IsEarly w fault × (after ≡ before))
     ⊎ ((rule : Option Told) × (trace : Option Told) × AreReports w listings s p rule trace × BreaksPlan p s.files (plain_run s).state.files rule trace before after fault)
 
--- The session was run: its console text was written, then the files were changed, on the disks only if the run changes them, and then the
--- stop was reported, or a prefix of that if writing failed.
-pub record Runs (w : Words) (listings : List (Option Listing)) (s : Session) (status : ℕ) (before after : World) : Type 0 where
-  pub places : Places
-  pub are : ArePlaces w listings places
-  pub exits : status ≡ stop_status (plain_run s).cause
-  pub written : WritesWhole before.out after.out (console_text s)
-  pub files : ChangesFiles w listings s (places_at (changes_disks w (plain_run s).cause) places) before.files.bytes after.files.bytes
-  pub reported : WritesOrFails before.err after.err (stop_text places (changes_disks w (plain_run s).cause) s)
-
 -- The error for a console text that was not written in full: it says also that the disks are as they were.
 abbrev pub has_disks : Words → Bool
 has_disks w = list_any is_some w.disk
@@ -135,14 +123,27 @@ is_unwritten fault = false
 abbrev pub of_text : Words → Fault → Fault
 of_text w fault = if is_unwritten fault && has_disks w then DiskUnchanged else fault
 
--- What an error leaves: nothing was written; or a prefix of the console text, and the files unchanged; or all of the text, and files that were
--- not changed as the run asks.
-abbrev pub BreaksRun : Words → List (Option Listing) → Session → World → World → Fault → Type 0
-BreaksRun w listings s before after fault =
-    (IsEarly w fault × WritesNothing before after)
-    ⊎ ((f : Fault) × (fault ≡ of_text w f) × BreaksText (console_text s) before.out after.out f × (after.files.bytes ≡ before.files.bytes))
-    ⊎ (WritesWhole before.out after.out (console_text s) × ((p : Places) × ArePlaces w listings p
-    × BreaksChanges w listings s (places_at (changes_disks w (plain_run s).cause) p) before.files.bytes after.files.bytes fault))
+-- The console text is written.
+abbrev pub print_console : Words → Session → Act
+print_console w s = record {
+  Does = (print (console_text s)).Does;
+  Leaves = λ before after fault. (f : Fault) × (fault ≡ of_text w f) × (print (console_text s)).Leaves before after f;
+}
+
+-- The files are changed by the plan of the run, and its reports are written.
+abbrev pub change : Words → List (Option Listing) → Session → Places → Act
+change w listings s p = record {
+  Does = λ before after. ChangesFiles w listings s p before.files.bytes after.files.bytes × (after.out ≡ before.out) × (after.err ≡ before.err);
+  Leaves = λ before after fault. BreaksChanges w listings s p before.files.bytes after.files.bytes fault × (after.out ≡ before.out);
+}
+
+-- A run: its console text, then its files, on the disks only if it changes them, and then its stop.
+abbrev pub finish : Words → Session → Bool → List (Option Listing) → Places → Act
+finish w s changes listings p = and_then (change w listings s (places_at changes p)) (report (stop_text p changes s))
+
+abbrev pub run : Words → List (Option Listing) → Session → Act
+run w listings s =
+    checked (IsEarly w) (and_then (print_console w s) (with_some (ArePlaces w listings) (finish w s (changes_disks w (plain_run s).cause) listings)))
 
 -- A rule for make cannot have a path of the words.
 abbrev pub RefusesRule : Words → Fault → Type 0
@@ -154,6 +155,6 @@ run_once w = record {
   session = session_words w;
   Refuses = λ fault. IsEarly w fault ⊎ RefusesRule w fault;
   Allows = AllowsRule w;
-  Answers = λ s listings status before after. Runs w listings s status before after;
-  Breaks = λ s listings before after fault. BreaksRun w listings s before after fault;
+  act = λ s listings. run w listings s;
+  status = λ s. stop_status (plain_run s).cause;
 }

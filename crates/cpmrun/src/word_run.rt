@@ -6,6 +6,7 @@ ghost use Rattle.folders.specs.Failures.{KeepsFiles, ReportsPaths};
 ghost use Rattle.hostfiles.specs.Files.{files};
 ghost use Rattle.machine.specs.PlainState.{plain_run};
 ghost use Rattle.one_run.specs.Planned.{planned};
+ghost use Rattle.one_run.specs.RunTexts.{stop_status};
 ghost use Rattle.one_run.specs.World.{world};
 ghost use Rattle.one_run.specs.declared.planning.Turn.TheVariants.{Outside};
 ghost use Rattle.faults.specs.Faults.{file_paths};
@@ -164,11 +165,13 @@ fn run_loaded<'r, 'a, S: FileSystem, O: Writer, E: Writer>(
     err: &mut E,
 ) -> Result<u8, Fault<'a>>
     requires { AllowsRule words.now }
-    ensures done { IfOk result (λ status. texts.Runs words.now loaded.now.listings loaded.now.session status
+    ensures done { IfOk result (λ status. (status ≡ stop_status (plain_run loaded.now.session).cause)
+        × (texts.run words.now loaded.now.listings loaded.now.session).Does
         (world (S.files system.old) (O.output out.old) (E.output err.old))
         (world (S.files system.new) (O.output out.new) (E.output err.new))) }
-    ensures fault { IfErr result (λ fault. (old new : Output) → texts.BreaksRun
-        words.now loaded.now.listings loaded.now.session (world (S.files system.old) (O.output out.old) old)
+    ensures fault { IfErr result (λ fault. (old new : Output) →
+        (texts.run words.now loaded.now.listings loaded.now.session).Leaves
+        (world (S.files system.old) (O.output out.old) old)
         (world (S.files system.new) (O.output out.new) new) fault) }
     ensures unreported { OnErr result (E.output err.new ≡ E.output err.old) }
     ensures failed { ReportsPaths file_paths result (S.files system.old) (S.files system.new) }

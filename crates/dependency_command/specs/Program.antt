@@ -25,8 +25,11 @@ answering w = record {
   session = w.session;
   Refuses = RefusesPaths w;
   Allows = AllowsPaths w;
-  Answers = λ s listings status before after. (status ≡ 0) × WritesAnswer (IsAnswer w listings s) before.out after.out × ReportsAnswer w s before.err after.err;
-  Breaks = λ s listings before after fault. BreaksAnswer (IsAnswer w listings s) before.out after.out fault;
+  act = λ s listings. record {
+    Does = λ before after. WritesAnswer (IsAnswer w listings s) before.out after.out × ReportsAnswer w s before.err after.err;
+    Leaves = λ before after fault. BreaksAnswer (IsAnswer w listings s) before.out after.out fault;
+  };
+  status = λ s. 0;
 }
 
 abbrev pub cpmdeps : Program DependencyWords

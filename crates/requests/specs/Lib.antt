@@ -1,2 +1,3 @@
 pub mod Requests
+pub mod Acts
 pub mod Programs

@@ -12,6 +12,7 @@ use Rattle.folders.specs.declared.listing.Listing.{Listing}
 use Rattle.loading.specs.Loading.{FailsToLoad, IsLoadedFrom}
 use Rattle.machine.specs.Inputs.{Session}
 use Rattle.one_run.specs.World.{World}
+use Rattle.requests.specs.Acts.{Act}
 use Rattle.requests.specs.Requests.{FailsToInform, FailsToTake, WritesNothing}
 use Rattle.streams.specs.Streams.{WritesWhole}
 
@@ -21,9 +22,9 @@ pub record Task : Type 1 where
   -- Why the words are refused before the session is loaded, and that they are not.
   pub Refuses : Fault → Type 0
   pub Allows : Type 0
-  -- What is done with the session, which was loaded from folders with these names, with its status; and what an error leaves of that.
-  pub Answers : Session → List (Option Listing) → ℕ → World → World → Type 0
-  pub Breaks : Session → List (Option Listing) → World → World → Fault → Type 0
+  -- What is done with the session, which was loaded from folders with these names; and the status after that.
+  pub act : Session → List (Option Listing) → Act
+  pub status : Session → ℕ
 
 -- A program: its name, and what its words say.
 pub record Program (W : Type 0) : Type 1 where
@@ -43,7 +44,8 @@ pub record Does (t : Task) (status : ℕ) (before after : World) : Type 0 where
   pub of : IsLoadedFrom before.files t.session s
   pub listings : List (Option Listing)
   pub listed : AreListings before.files t.session.files listings
-  pub answers : t.Answers s listings status before after
+  pub done : (t.act s listings).Does before after
+  pub exits : status ≡ t.status s
 
 -- What an error of a task leaves: it was refused, or its session was not loaded, and nothing was written; or what was done with the
 -- session broke off.
@@ -52,7 +54,7 @@ Fails t before after fault =
     (t.Refuses fault × WritesNothing before after)
     ⊎ (t.Allows × ((FailsToLoad before.files t.session fault × WritesNothing before after)
     ⊎ ((s : Session) × (listings : List (Option Listing)) × IsLoadedFrom before.files t.session s × AreListings before.files t.session.files listings
-    × t.Breaks s listings before after fault)))
+    × (t.act s listings).Leaves before after fault)))
 
 -- Help or the version was written.
 pub record Informs (Has : ErrorClass → Type 0) (status : ℕ) (before after : World) : Type 0 where

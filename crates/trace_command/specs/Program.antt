@@ -1,15 +1,13 @@
 -- `cpmtrace` as a program. (This project's profile.)
-use Rattle.std.specs.Prelude.{◌≡◌}
 use Rattle.command_words.specs.Clashes.{trace_checks}
 use Rattle.command_words.specs.ErrorClass.{HasErrorClass}
 use Rattle.command_words.specs.TraceLine.{AreTraceWordsOf, trace_faults, trace_matches}
 use Rattle.command_words.specs.declared.trace_words.TraceWords.{TraceWords}
-use Rattle.faults.specs.Faults.{BreaksText}
 use Rattle.faults.specs.declared.fault.Fault.{Fault}
 use Rattle.faults.specs.declared.tool.Tool.TheVariants.{Cpmtrace}
+use Rattle.requests.specs.Acts.{print, with_some}
 use Rattle.requests.specs.Programs.{Program, Task}
 use Rattle.requests.specs.Requests.{IsUsageError}
-use Rattle.streams.specs.Streams.{WritesWhole}
 use Rattle.trace_filters.specs.declared.choice.Choice.{Choice}
 use Rattle.tracing.specs.Trace.{trace_text}
 use Rattle.trace_command.specs.AreTraceWords.{AreTraceWords}
@@ -26,9 +24,8 @@ tracing w = record {
   session = w.session;
   Refuses = RefusesValue w;
   Allows = (choice : Choice) × IsChoiceOf w choice;
-  Answers = λ s listings status before after.
-      (status ≡ 0) × ((choice : Choice) × IsChoiceOf w choice × WritesWhole before.out after.out (trace_text choice s)) × (after.err ≡ before.err);
-  Breaks = λ s listings before after fault. (choice : Choice) × IsChoiceOf w choice × BreaksText (trace_text choice s) before.out after.out fault;
+  act = λ s listings. with_some (IsChoiceOf w) (λ choice. print (trace_text choice s));
+  status = λ s. 0;
 }
 
 abbrev pub cpmtrace : Program TraceWords

@@ -48,5 +48,6 @@ returns-clause-done g c =
       of = rw c.session.ensures at c.in_ok-session.ensures.session;
       listings = c.in_ok-session.field-0.listings;
       listed = rw c.session.ensures at c.in_ok-session.ensures.names;
-      answers = (refl, refl, same, rw (c.load.ensures.unchanged.bytes, c.options.ensures) at c.in_ok-replay_file.ensures.done);
+      exits = refl;
+      done = (refl, same, rw (c.load.ensures.unchanged.bytes, c.options.ensures) at c.in_ok-replay_file.ensures.done);
     })

@@ -22,7 +22,8 @@ returns-clause-done g c =
       listings = c.in_ok-loaded.loaded.listings;
       of = rw (first, c.session.ensures) at c.in_ok-loaded.ensures.session;
       listed = rw (first, c.session.ensures) at c.in_ok-loaded.ensures.names;
-      answers = rw (same, first) at h;
+      done = rw (same, first) at h.1;
+      exits = h.0;
     }) c.run_loaded.ensures.done
 
 pub returns-clause-fault : goal.returns-clause-fault

@@ -28,14 +28,19 @@ returns-clause-done g c =
     let loaded = c.in_ok-loaded.ensures in
     OnOk-both c.write_answer.result (λ written reported. record {
       failed = ap (λ (f : StoredFiles). f.failed) (same_files loaded.unchanged);
-      did = inr (c.in-Session.words, are, record {
-        allowed = c.in_ok-check_words.ensures.allowed;
-        s = c.in_ok-loaded.loaded.session;
-        of = loaded.session;
-        listings = c.in_ok-loaded.loaded.listings;
-        listed = loaded.names;
-        answers = (refl, written, reported);
-      });
+      did = inr (
+        c.in-Session.words,
+        are,
+        record {
+          allowed = c.in_ok-check_words.ensures.allowed;
+          s = c.in_ok-loaded.loaded.session;
+          of = loaded.session;
+          listings = c.in_ok-loaded.loaded.listings;
+          listed = loaded.names;
+          done = (written, reported);
+          exits = refl;
+        },
+      );
     }) c.write_answer.ensures.done c.write_answer.ensures.reported
 
 pub returns-clause-fault : goal.returns-clause-fault

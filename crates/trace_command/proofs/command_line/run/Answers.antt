@@ -29,14 +29,19 @@ returns-clause-done g c =
     let loaded = c.in_ok-loaded.ensures in
     OnOk-weaker c.write_trace.result (λ written err. record {
       failed = ap (λ (f : StoredFiles). f.failed) (same_files loaded.unchanged);
-      did = inr (c.in-Session.words, are, record {
-        allowed = (c.in_ok-choice.choice, c.in_ok-choice.ensures.choice);
-        s = c.in_ok-loaded.loaded.session;
-        of = loaded.session;
-        listings = c.in_ok-loaded.loaded.listings;
-        listed = loaded.names;
-        answers = (refl, (c.in_ok-choice.choice, c.in_ok-choice.ensures.choice, written), refl);
-      });
+      did = inr (
+        c.in-Session.words,
+        are,
+        record {
+          allowed = (c.in_ok-choice.choice, c.in_ok-choice.ensures.choice);
+          s = c.in_ok-loaded.loaded.session;
+          of = loaded.session;
+          listings = c.in_ok-loaded.loaded.listings;
+          listed = loaded.names;
+          done = (c.in_ok-choice.choice, c.in_ok-choice.ensures.choice, (written, loaded.unchanged.bytes, refl));
+          exits = refl;
+        },
+      );
     }) c.write_trace.ensures.done
 
 pub returns-clause-fault : goal.returns-clause-fault
@@ -48,7 +53,13 @@ returns-clause-fault g c =
       are,
       inr (
         (c.in_ok-choice.choice, c.in_ok-choice.ensures.choice),
-        inr (c.in_ok-loaded.loaded.session, c.in_ok-loaded.loaded.listings, loaded.session, loaded.names, (c.in_ok-choice.choice, c.in_ok-choice.ensures.choice, breaks)),
+        inr (
+          c.in_ok-loaded.loaded.session,
+          c.in_ok-loaded.loaded.listings,
+          loaded.session,
+          loaded.names,
+          (c.in_ok-choice.choice, c.in_ok-choice.ensures.choice, (breaks, loaded.unchanged.bytes)),
+        ),
       ),
     ))) c.write_trace.ensures.fault
 
