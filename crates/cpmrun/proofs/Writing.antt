@@ -66,7 +66,7 @@ breaks_file files path left f s before after o b = elim (of_file files path left
   | inr e ↦ subst (λ source. BreaksOffWith f source s before after) (sym e) (record { left = b.left; last = b.last; bytes = b.bytes; done = b.done; next = b.next; read = tt; lines = b.lines; leaves = b.leaves })
 ]
 
--- Edit lines whose file cannot be opened leave what was written as it is.
+-- If the file of edit lines cannot be opened, nothing is written.
 pub unopened : (path : List ℕ) (source : Option (List ℕ)) (s : Session) (out : Output) (f : Fault) → IsReadFaultOf path f → BreaksReplay path source s out out f
 unopened path source s out f (inl is) = rw is (inl refl)
 unopened path source s out f (inr (p, is, h)) = rw is (h, inl refl)

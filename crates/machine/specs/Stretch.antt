@@ -36,7 +36,7 @@ pub record RunsStretch (s : Session) (from end : ℕ) (looked : AllLooks) (n : �
 abbrev pub CallsNothing : Answers → ℕ → ℕ → Type 0
 CallsNothing f from upto = (i : ℕ) (st : PartialState) → from ≤ i → i < upto → after f i ≡ Some st → st.core.regs.pc ≢ 0xfe06
 
--- A state is that of a session after `from` steps, and its known cells belong to the session's image.
+-- A session has this state after `from` steps, and the known cells belong to its image.
 pub record StartsIn (s : Session) (from : ℕ) (start : StateView) : Type 0 where
   pub bound : IsBound s start
   pub at : after (session_answers s) from ≡ Some start.state

@@ -86,7 +86,7 @@ pub record EndsByFault {W : Type 0} (p : Program W) (words : List (List ℕ)) (s
   pub failed : after.files.failed ≡ file_paths fault ++ before.files.failed
   pub reported : ReportsFaultOrMemory p.tool fault status before.err after.err
 
--- How a program ends. The status 0 is that of no error.
+-- How a program ends. It has the status 0 only if there is no error.
 pub record Ends {W : Type 0} (p : Program W) (words : List (List ℕ)) (status : ℕ) (before after : World) : Type 0 where
   pub ends : EndsWell p words status before after ⊎ EndsByFault p words status before after
   pub done : status ≡ 0 → EndsWell p words status before after

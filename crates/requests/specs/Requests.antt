@@ -3,10 +3,8 @@ use Rattle.std.specs.Prelude.{◌≡◌, ◌⊎◌, ◌++◌, ℕ, List, Result,
 use Rattle.command_words.specs.Clashes.{Check, first_failed, names_in}
 use Rattle.command_words.specs.declared.clashes.Clash.{Clash}
 use Rattle.command_words.specs.declared.clashes.Clash.TheVariants.{Both, SameFolder, Missing}
-use Rattle.command_words.specs.declared.words.SessionWords.{SessionWords}
 use Rattle.command_words.specs.declared.error_classes.ErrorClass.{ErrorClass}
 use Rattle.command_words.specs.declared.error_classes.ErrorClass.TheVariants as outcome
-use Rattle.loading.specs.Loading.{FailsToLoad}
 use Rattle.one_run.specs.World.{World}
 use Rattle.streams.specs.Streams.{Output, WritesPart, WritesText}
 use Rattle.faults.specs.Faults.{usage_text}
@@ -65,7 +63,3 @@ WritesNothing before after = (after.out ≡ before.out) × (after.files.bytes �
 abbrev pub FailsToInform : (ErrorClass → Type 0) → World → World → Fault → Type 0
 FailsToInform Has before after fault =
     Has outcome.Information × (fault ≡ CannotWrite) × ((text : List ℕ) × WritesPart before.out after.out text) × (after.files.bytes ≡ before.files.bytes)
-
--- The session that the words describe could not be loaded, for this error, and nothing was written.
-abbrev pub FailsToLoadSession : SessionWords → World → World → Fault → Type 0
-FailsToLoadSession w before after fault = FailsToLoad before.files w fault × WritesNothing before after
