@@ -8,8 +8,9 @@ from helpers import PROGRAM, ProgramTest
 LOOP = ('known_run::run::run_known', 'machine::stretch::run_quietly')
 """The function with the loop: the first, unless the compiler inlines it into the second."""
 
-JUMPS = 3
-"""One where the loop begins and one in it, by the table for the opcodes that programs use most, and one by the table for the others."""
+JUMPS = (2, 3)
+"""One in the loop, and perhaps a copy where it begins, by the table for the opcodes that programs use most, and one by the table for the
+others."""
 
 APART = [
     'machine::stretch::run_to_look',
@@ -76,4 +77,4 @@ class SymbolTest(ProgramTest):
 
     def test_the_loop_jumps_by_a_table_for_common_and_one_for_rare_opcodes(self) -> None:
         jumps = [line for line in self.machine_code(self.loop()) if re.search(r'\bjmp[a-z]? +\*', line)]
-        self.assertEqual(len(jumps), JUMPS, jumps)
+        self.assertIn(len(jumps), JUMPS, jumps)

@@ -1,9 +1,9 @@
 ghost use Rattle.std.specs.Prelude.{◌≡◌, ◌<◌, ℕ, Bool, true, false, IsTrue, IfOk, OnOk, OnErr};
 ghost use Rattle.i8080.specs.Memory.{Memory, bytes, look, write};
 ghost use Rattle.i8080.specs.Reading.{Cell, Done};
-ghost use Rattle.i8080.specs.Instruction.{word_at};
-ghost use Rattle.i8080.specs.Performs.{KeepsReady};
-ghost use Rattle.i8080.specs.Attempts.{IsKept, MayRead};
+ghost use Rattle.i8080.specs.Instruction.{one_word, word_at};
+ghost use Rattle.i8080.specs.Performs.{KeepsReady, WritesUnready};
+ghost use Rattle.i8080.specs.Attempts.{IsKept, MayRead, MayWrite};
 
 use crate::bus::{Bus, fetch_word};
 use crate::registers::word_of;
@@ -89,6 +89,26 @@ pub trait Access {
         ensures looks { (memory self.new).looks ≡ (memory self.old).looks }
         ensures beneath { (memory self.new).beneath ≡ (memory self.old).beneath }
         ensures lender { (memory self.new).lender ≡ (memory self.old).lender };
+
+    /// Writes the word at an address, low byte first, after making both cells ready. No byte changes before both are.
+    ///
+    /// # Errors
+    ///
+    /// The memory refuses the write.
+    #[tactic(auto, using(crate::proofs::ReadyLemmas::first_unready, crate::proofs::ReadyLemmas::second_unready, crate::proofs::ReadyLemmas::unready_before))]
+    #[inline(always)]
+    fn store_word(&mut self, a: u16, value: u16) -> Result<(), Self::Refusal>
+        ensures writes { MayWrite (one_word a value) (memory self.old) result (memory self.new) }
+        ensures unready { OnErr result (is_sure ≡ true
+            → WritesUnready (is_ready self.old) (one_word a value)) }
+    {
+        let above = a.wrapping_add(1);
+        self.make_ready(a)?;
+        self.make_ready(above)?;
+        self.put(a, (value % 256) as u8);
+        self.put(above, (value / 256) as u8);
+        Ok(())
+    }
 }
 
 // Reads the byte of a cell.

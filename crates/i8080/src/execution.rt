@@ -1,9 +1,11 @@
 // Fetches and decodes the opcode at PC, and executes its instruction.
 
-ghost use Rattle.std.specs.Prelude.{◌≡◌, MatchOption};
+ghost use Rattle.std.specs.Prelude.{◌≡◌, MatchOption, IfNone, IfSome};
 ghost use Rattle.i8080.specs.Performs.{Performs};
 ghost use Rattle.i8080.specs.Instruction.{instruction};
 ghost use Rattle.i8080.specs.Attempts.{Tries};
+ghost use Rattle.i8080.specs.Moves.{Moves};
+ghost use Rattle.i8080.specs.declared.opcode.Op.TheVariants.{Hlt};
 
 use crate::access::Access;
 use crate::bus::{Bus, fetch};
@@ -40,45 +42,76 @@ fn perform<M: Access>(regs: &mut Regs, bus: &mut M, op: Op) -> Result<Did, M::Re
     ensures { Tries M.is_sure op regs.old (M.memory bus.old) (M.is_ready bus.old)
         result regs.new (M.memory bus.new) }
 {
+    let pc = regs.pc;
+    match go_on(regs, pc, bus, op) {
+        Some(Ok(next)) => {
+            regs.pc = next;
+            Ok(Did::Went)
+        }
+        Some(Err(refusal)) => {
+            regs.pc = pc;
+            Err(refusal)
+        }
+        None => Ok(Did::Halt),
+    }
+}
+
+// Executes an instruction whose PC is given. Returns `None`, and changes nothing, for HLT.
+fn go_on<M: Access>(
+    regs: &mut Regs,
+    pc: u16,
+    bus: &mut M,
+    op: Op,
+) -> Option<Result<u16, M::Refusal>>
+    ensures moved { IfSome result (λ next. Moves M.is_sure op pc regs.old (M.memory bus.old)
+        (M.is_ready bus.old) next regs.new (M.memory bus.new)) }
+    ensures halted { IfNone result (op ≡ Hlt) }
+    ensures regs { IfNone result (regs.new ≡ regs.old) }
+    ensures memory { IfNone result (M.memory bus.new ≡ M.memory bus.old) }
+{
     match op {
-        Op::Nop | Op::Di | Op::Ei => nop(regs, bus),
-        Op::Hlt => Ok(Did::Halt),
-        Op::Mov(to, from) => mov(regs, bus, to, from),
-        Op::MovToMemory(from) => mov_to_memory(regs, bus, from),
-        Op::Mvi(to) => mvi(regs, bus, to),
-        Op::Lxi(to) => lxi(regs, bus, to),
-        Op::Lda => lda(regs, bus),
-        Op::Sta => sta(regs, bus),
-        Op::Lhld => lhld(regs, bus),
-        Op::Shld => shld(regs, bus),
-        Op::Ldax(base) => ldax(regs, bus, base),
-        Op::Stax(base) => stax(regs, bus, base),
-        Op::Xchg => xchg(regs, bus),
-        Op::Accumulate(function, Source::At(from)) => accumulate(regs, bus, function, from),
-        Op::Accumulate(function, Source::Immediate) => accumulate_immediate(regs, bus, function),
-        Op::Inr(at) => inr(regs, bus, at),
-        Op::Dcr(at) => dcr(regs, bus, at),
-        Op::Inx(at) => inx(regs, bus, at),
-        Op::Dcx(at) => dcx(regs, bus, at),
-        Op::Dad(from) => dad(regs, bus, from),
-        Op::Rotate(way) => rotate(regs, bus, way),
-        Op::Daa => daa(regs, bus),
-        Op::Cma => cma(regs, bus),
-        Op::Stc => stc(regs, bus),
-        Op::Cmc => cmc(regs, bus),
-        Op::Jmp => jmp(regs, bus),
-        Op::JumpIf(condition) => jump_if(regs, bus, condition),
-        Op::Call => call(regs, bus),
-        Op::CallIf(condition) => call_if(regs, bus, condition),
-        Op::Ret => ret(regs, bus),
-        Op::RetIf(condition) => ret_if(regs, bus, condition),
-        Op::Rst(restart) => rst(regs, bus, restart),
-        Op::Pchl => pchl(regs, bus),
-        Op::Push(what) => push(regs, bus, what),
-        Op::Pop(what) => pop(regs, bus, what),
-        Op::Xthl => xthl(regs, bus),
-        Op::Sphl => sphl(regs, bus),
-        Op::In => input(regs, bus),
-        Op::Out => output(regs, bus),
+        Op::Nop | Op::Di | Op::Ei => Some(nop(regs, pc, bus)),
+        Op::Mov(to, from) => Some(mov(regs, pc, bus, to, from)),
+        Op::MovToMemory(from) => Some(mov_to_memory(regs, pc, bus, from)),
+        Op::Mvi(to) => Some(mvi(regs, pc, bus, to)),
+        Op::Lxi(to) => Some(lxi(regs, pc, bus, to)),
+        Op::Lda => Some(lda(regs, pc, bus)),
+        Op::Sta => Some(sta(regs, pc, bus)),
+        Op::Lhld => Some(lhld(regs, pc, bus)),
+        Op::Shld => Some(shld(regs, pc, bus)),
+        Op::Ldax(base) => Some(ldax(regs, pc, bus, base)),
+        Op::Stax(base) => Some(stax(regs, pc, bus, base)),
+        Op::Xchg => Some(xchg(regs, pc, bus)),
+        Op::Accumulate(function, Source::At(from)) => Some(accumulate(
+            regs, pc, bus, function, from,
+        )),
+        Op::Accumulate(function, Source::Immediate) => Some(accumulate_immediate(
+            regs, pc, bus, function,
+        )),
+        Op::Inr(at) => Some(inr(regs, pc, bus, at)),
+        Op::Dcr(at) => Some(dcr(regs, pc, bus, at)),
+        Op::Inx(at) => Some(inx(regs, pc, bus, at)),
+        Op::Dcx(at) => Some(dcx(regs, pc, bus, at)),
+        Op::Dad(from) => Some(dad(regs, pc, bus, from)),
+        Op::Rotate(way) => Some(rotate(regs, pc, bus, way)),
+        Op::Daa => Some(daa(regs, pc, bus)),
+        Op::Cma => Some(cma(regs, pc, bus)),
+        Op::Stc => Some(stc(regs, pc, bus)),
+        Op::Cmc => Some(cmc(regs, pc, bus)),
+        Op::Jmp => Some(jmp(regs, pc, bus)),
+        Op::JumpIf(condition) => Some(jump_if(regs, pc, bus, condition)),
+        Op::Call => Some(call(regs, pc, bus)),
+        Op::CallIf(condition) => Some(call_if(regs, pc, bus, condition)),
+        Op::Ret => Some(ret(regs, pc, bus)),
+        Op::RetIf(condition) => Some(ret_if(regs, pc, bus, condition)),
+        Op::Rst(restart) => Some(rst(regs, pc, bus, restart)),
+        Op::Pchl => Some(pchl(regs, pc, bus)),
+        Op::Push(what) => Some(push(regs, pc, bus, what)),
+        Op::Pop(what) => Some(pop(regs, pc, bus, what)),
+        Op::Xthl => Some(xthl(regs, pc, bus)),
+        Op::Sphl => Some(sphl(regs, pc, bus)),
+        Op::In => Some(input(regs, pc, bus)),
+        Op::Out => Some(output(regs, pc, bus)),
+        Op::Hlt => None,
     }
 }

@@ -1,12 +1,13 @@
-// The instructions. Each reads first, then makes cells ready and writes them, and sets the registers last, so that the
-// registers and the bytes of memory are unchanged if the memory refuses.
+// The instructions. Each is given PC apart from the other registers, and returns where the next instruction is: a loop over them keeps
+// PC in a register of the machine, where `regs.pc` would go through its memory in every step. Each reads first, then makes cells ready and
+// writes them, and sets the registers last, so that the registers and the bytes of memory are unchanged if the memory refuses.
 
-ghost use Rattle.std.specs.Prelude.{◌≡◌, true, Ok, OnErr};
+ghost use Rattle.std.specs.Prelude.{◌≡◌, true, OnErr};
 ghost use Rattle.i8080.specs.Reading.{Done};
-ghost use Rattle.i8080.specs.Registers.{advance};
 ghost use Rattle.i8080.specs.Performs.{KeepsReady, WritesUnready};
-ghost use Rattle.i8080.specs.Attempts.{Attempts, MayRead, MayWrite, Tries};
-ghost use Rattle.i8080.specs.Instruction.{from_place, to_place, base_of, one_byte, one_word, pushing};
+ghost use Rattle.i8080.specs.Attempts.{Attempts, MayRead, MayWrite};
+ghost use Rattle.i8080.specs.Moves.{Moves};
+ghost use Rattle.i8080.specs.Instruction.{from_place, to_place, base_of, one_byte, pushing};
 ghost use Rattle.i8080.specs.declared.opcode.Source.TheVariants.{At, Immediate};
 ghost use Rattle.i8080.specs.declared.opcode.Op.TheVariants.{Nop, Mov, MovToMemory, Mvi, Lxi, Lda, Sta, Lhld, Shld, Ldax, Stax, Xchg, Accumulate, Inr, Dcr, Inx, Dcx, Dad, Rotate, Daa, Cma, Stc, Cmc, Jmp, JumpIf, Call, CallIf, Ret, RetIf, Rst, Pchl, Push, Pop, Xthl, Sphl, In, Out};
 
@@ -16,8 +17,11 @@ use crate::opcode::{Arithmetic, Base, Condition, Pair, Place, Register, Restart,
 use crate::outcome::Did;
 use crate::registers::{Regs, word_of};
 
-// How an instruction ended, or why the memory refused.
-type Ended<M> = Result<Did, <M as Access>::Refusal>;
+// Whether a part of an instruction was done, or why the memory refused.
+type Part<M> = Result<Did, <M as Access>::Refusal>;
+
+// Where the next instruction is, or why the memory refused.
+type Next<M> = Result<u16, <M as Access>::Refusal>;
 
 // Reads a register, or the cell at HL.
 #[tactic(auto, using(crate::proofs::ReadyLemmas::readiness))]
@@ -46,26 +50,10 @@ fn store<M: Access>(bus: &mut M, a: u16, value: u8) -> Result<(), M::Refusal>
     Ok(())
 }
 
-// Writes a word, after making both cells ready.
-#[tactic(auto, using(crate::proofs::ReadyLemmas::first_unready, crate::proofs::ReadyLemmas::second_unready, crate::proofs::ReadyLemmas::unready_before))]
-#[inline(always)]
-fn store_word<M: Access>(bus: &mut M, a: u16, value: u16) -> Result<(), M::Refusal>
-    ensures writes { MayWrite (one_word a value) (M.memory bus.old) result (M.memory bus.new) }
-    ensures unready { OnErr result (M.is_sure ≡ true
-        → WritesUnready (M.is_ready bus.old) (one_word a value)) }
-{
-    let above = a.wrapping_add(1);
-    bus.make_ready(a)?;
-    bus.make_ready(above)?;
-    bus.put(a, (value % 256) as u8);
-    bus.put(above, (value / 256) as u8);
-    Ok(())
-}
-
 // Sets a register, or writes the cell at HL.
 #[tactic(auto, using(crate::proofs::ReadyLemmas::readiness))]
 #[inline(always)]
-fn set_place<M: Access>(regs: &mut Regs, bus: &mut M, place: Place, value: u8) -> Ended<M>
+fn set_place<M: Access>(regs: &mut Regs, bus: &mut M, place: Place, value: u8) -> Part<M>
     ensures { Attempts M.is_sure (to_place place value regs.old)
         regs.old (M.memory bus.old) (M.is_ready bus.old) result regs.new (M.memory bus.new) }
 {
@@ -79,23 +67,13 @@ fn set_place<M: Access>(regs: &mut Regs, bus: &mut M, place: Place, value: u8) -
 // Pushes a word.
 #[tactic(auto, using(crate::proofs::ReadyLemmas::readiness))]
 #[inline(always)]
-fn push_word<M: Access>(regs: &mut Regs, bus: &mut M, value: u16) -> Ended<M>
+fn push_word<M: Access>(regs: &mut Regs, bus: &mut M, value: u16) -> Part<M>
     ensures { Attempts M.is_sure (pushing value regs.old)
         regs.old (M.memory bus.old) (M.is_ready bus.old) result regs.new (M.memory bus.new) }
 {
     let top = regs.sp.wrapping_sub(2);
-    store_word(bus, top, value)?;
+    bus.store_word(top, value)?;
     regs.sp = top;
-    Ok(Did::Went)
-}
-
-// Ends an instruction of this length: moves PC past it.
-#[inline(always)]
-fn advance<E>(regs: &mut Regs, length: u16) -> Result<Did, E>
-    ensures did { result ≡ Ok Did.Went }
-    ensures regs { regs.new ≡ advance length regs.old }
-{
-    regs.pc = regs.pc.wrapping_add(length);
     Ok(Did::Went)
 }
 
@@ -111,216 +89,218 @@ fn address(regs: &Regs, base: Base) -> u16
 
 // Executes NOP, DI or EI; DI and EI do nothing here.
 #[inline(always)]
-pub fn nop<M: Access>(regs: &mut Regs, _bus: &mut M) -> Ended<M>
-    ensures { Tries M.is_sure Nop regs.old (M.memory _bus.old) (M.is_ready _bus.old)
+pub fn nop<M: Access>(regs: &mut Regs, pc: u16, _bus: &mut M) -> Next<M>
+    ensures { Moves M.is_sure Nop pc regs.old (M.memory _bus.old) (M.is_ready _bus.old)
         result regs.new (M.memory _bus.new) }
 {
-    advance(regs, 1)
+    Ok(pc.wrapping_add(1))
 }
 
 #[inline(always)]
-pub fn mov<M: Access>(regs: &mut Regs, bus: &mut M, to: Register, from: Place) -> Ended<M>
-    ensures { Tries M.is_sure (Mov to from) regs.old (M.memory bus.old) (M.is_ready bus.old)
+pub fn mov<M: Access>(regs: &mut Regs, pc: u16, bus: &mut M, to: Register, from: Place) -> Next<M>
+    ensures { Moves M.is_sure (Mov to from) pc regs.old (M.memory bus.old) (M.is_ready bus.old)
         result regs.new (M.memory bus.new) }
 {
     let value = operand(regs, bus, from)?;
     regs.set(to, value);
-    advance(regs, 1)
+    Ok(pc.wrapping_add(1))
 }
 
 #[tactic(auto, using(crate::proofs::ReadyLemmas::readiness))]
 #[inline(always)]
-pub fn mov_to_memory<M: Access>(regs: &mut Regs, bus: &mut M, from: Register) -> Ended<M>
-    ensures { Tries M.is_sure (MovToMemory from) regs.old (M.memory bus.old) (M.is_ready bus.old)
+pub fn mov_to_memory<M: Access>(regs: &mut Regs, pc: u16, bus: &mut M, from: Register) -> Next<M>
+    ensures { Moves M.is_sure (MovToMemory from) pc regs.old (M.memory bus.old) (M.is_ready bus.old)
         result regs.new (M.memory bus.new) }
 {
     store(bus, regs.pair(Pair::Hl), regs.get(from))?;
-    advance(regs, 1)
+    Ok(pc.wrapping_add(1))
 }
 
 #[tactic(auto, using(crate::proofs::ReadyLemmas::readiness))]
 #[inline(always)]
-pub fn mvi<M: Access>(regs: &mut Regs, bus: &mut M, to: Place) -> Ended<M>
-    ensures { Tries M.is_sure (Mvi to) regs.old (M.memory bus.old) (M.is_ready bus.old)
+pub fn mvi<M: Access>(regs: &mut Regs, pc: u16, bus: &mut M, to: Place) -> Next<M>
+    ensures { Moves M.is_sure (Mvi to) pc regs.old (M.memory bus.old) (M.is_ready bus.old)
         result regs.new (M.memory bus.new) }
 {
-    let value = read_byte(bus, regs.pc.wrapping_add(1))?;
+    let value = read_byte(bus, pc.wrapping_add(1))?;
     set_place(regs, bus, to, value)?;
-    advance(regs, 2)
+    Ok(pc.wrapping_add(2))
 }
 
 #[inline(always)]
-pub fn lxi<M: Access>(regs: &mut Regs, bus: &mut M, to: Pair) -> Ended<M>
-    ensures { Tries M.is_sure (Lxi to) regs.old (M.memory bus.old) (M.is_ready bus.old)
+pub fn lxi<M: Access>(regs: &mut Regs, pc: u16, bus: &mut M, to: Pair) -> Next<M>
+    ensures { Moves M.is_sure (Lxi to) pc regs.old (M.memory bus.old) (M.is_ready bus.old)
         result regs.new (M.memory bus.new) }
 {
-    let value = bus.try_word(regs.pc.wrapping_add(1))?;
+    let value = bus.try_word(pc.wrapping_add(1))?;
     regs.set_pair(to, value);
-    advance(regs, 3)
+    Ok(pc.wrapping_add(3))
 }
 
 #[inline(always)]
-pub fn lda<M: Access>(regs: &mut Regs, bus: &mut M) -> Ended<M>
-    ensures { Tries M.is_sure Lda regs.old (M.memory bus.old) (M.is_ready bus.old)
+pub fn lda<M: Access>(regs: &mut Regs, pc: u16, bus: &mut M) -> Next<M>
+    ensures { Moves M.is_sure Lda pc regs.old (M.memory bus.old) (M.is_ready bus.old)
         result regs.new (M.memory bus.new) }
 {
-    let from = bus.try_word(regs.pc.wrapping_add(1))?;
+    let from = bus.try_word(pc.wrapping_add(1))?;
     regs.a = read_byte(bus, from)?;
-    advance(regs, 3)
+    Ok(pc.wrapping_add(3))
 }
 
 #[tactic(auto, using(crate::proofs::ReadyLemmas::readiness))]
 #[inline(always)]
-pub fn sta<M: Access>(regs: &mut Regs, bus: &mut M) -> Ended<M>
-    ensures { Tries M.is_sure Sta regs.old (M.memory bus.old) (M.is_ready bus.old)
+pub fn sta<M: Access>(regs: &mut Regs, pc: u16, bus: &mut M) -> Next<M>
+    ensures { Moves M.is_sure Sta pc regs.old (M.memory bus.old) (M.is_ready bus.old)
         result regs.new (M.memory bus.new) }
 {
-    let to = bus.try_word(regs.pc.wrapping_add(1))?;
+    let to = bus.try_word(pc.wrapping_add(1))?;
     store(bus, to, regs.a)?;
-    advance(regs, 3)
+    Ok(pc.wrapping_add(3))
 }
 
 #[inline(always)]
-pub fn lhld<M: Access>(regs: &mut Regs, bus: &mut M) -> Ended<M>
-    ensures { Tries M.is_sure Lhld regs.old (M.memory bus.old) (M.is_ready bus.old)
+pub fn lhld<M: Access>(regs: &mut Regs, pc: u16, bus: &mut M) -> Next<M>
+    ensures { Moves M.is_sure Lhld pc regs.old (M.memory bus.old) (M.is_ready bus.old)
         result regs.new (M.memory bus.new) }
 {
-    let from = bus.try_word(regs.pc.wrapping_add(1))?;
+    let from = bus.try_word(pc.wrapping_add(1))?;
     let value = bus.try_word(from)?;
     regs.set_pair(Pair::Hl, value);
-    advance(regs, 3)
+    Ok(pc.wrapping_add(3))
 }
 
 #[tactic(auto, using(crate::proofs::ReadyLemmas::readiness))]
 #[inline(always)]
-pub fn shld<M: Access>(regs: &mut Regs, bus: &mut M) -> Ended<M>
-    ensures { Tries M.is_sure Shld regs.old (M.memory bus.old) (M.is_ready bus.old)
+pub fn shld<M: Access>(regs: &mut Regs, pc: u16, bus: &mut M) -> Next<M>
+    ensures { Moves M.is_sure Shld pc regs.old (M.memory bus.old) (M.is_ready bus.old)
         result regs.new (M.memory bus.new) }
 {
-    let to = bus.try_word(regs.pc.wrapping_add(1))?;
-    store_word(bus, to, regs.pair(Pair::Hl))?;
-    advance(regs, 3)
+    let to = bus.try_word(pc.wrapping_add(1))?;
+    bus.store_word(to, regs.pair(Pair::Hl))?;
+    Ok(pc.wrapping_add(3))
 }
 
 #[inline(always)]
-pub fn ldax<M: Access>(regs: &mut Regs, bus: &mut M, base: Base) -> Ended<M>
-    ensures { Tries M.is_sure (Ldax base) regs.old (M.memory bus.old) (M.is_ready bus.old)
+pub fn ldax<M: Access>(regs: &mut Regs, pc: u16, bus: &mut M, base: Base) -> Next<M>
+    ensures { Moves M.is_sure (Ldax base) pc regs.old (M.memory bus.old) (M.is_ready bus.old)
         result regs.new (M.memory bus.new) }
 {
     regs.a = read_byte(bus, address(regs, base))?;
-    advance(regs, 1)
+    Ok(pc.wrapping_add(1))
 }
 
 #[tactic(auto, using(crate::proofs::ReadyLemmas::readiness))]
 #[inline(always)]
-pub fn stax<M: Access>(regs: &mut Regs, bus: &mut M, base: Base) -> Ended<M>
-    ensures { Tries M.is_sure (Stax base) regs.old (M.memory bus.old) (M.is_ready bus.old)
+pub fn stax<M: Access>(regs: &mut Regs, pc: u16, bus: &mut M, base: Base) -> Next<M>
+    ensures { Moves M.is_sure (Stax base) pc regs.old (M.memory bus.old) (M.is_ready bus.old)
         result regs.new (M.memory bus.new) }
 {
     store(bus, address(regs, base), regs.a)?;
-    advance(regs, 1)
+    Ok(pc.wrapping_add(1))
 }
 
 #[inline(always)]
-pub fn xchg<M: Access>(regs: &mut Regs, _bus: &mut M) -> Ended<M>
-    ensures { Tries M.is_sure Xchg regs.old (M.memory _bus.old) (M.is_ready _bus.old)
+pub fn xchg<M: Access>(regs: &mut Regs, pc: u16, _bus: &mut M) -> Next<M>
+    ensures { Moves M.is_sure Xchg pc regs.old (M.memory _bus.old) (M.is_ready _bus.old)
         result regs.new (M.memory _bus.new) }
 {
     let (hl, de) = (regs.pair(Pair::Hl), regs.pair(Pair::De));
     regs.set_pair(Pair::Hl, de);
     regs.set_pair(Pair::De, hl);
-    advance(regs, 1)
+    Ok(pc.wrapping_add(1))
 }
 
 #[inline(always)]
 pub fn accumulate<M: Access>(
     regs: &mut Regs,
+    pc: u16,
     bus: &mut M,
     function: Arithmetic,
     from: Place,
-) -> Ended<M>
-    ensures { Tries M.is_sure (Accumulate function (At from))
+) -> Next<M>
+    ensures { Moves M.is_sure (Accumulate function (At from)) pc
         regs.old (M.memory bus.old) (M.is_ready bus.old) result regs.new (M.memory bus.new) }
 {
     let value = operand(regs, bus, from)?;
     regs.accumulate(function, value);
-    advance(regs, 1)
+    Ok(pc.wrapping_add(1))
 }
 
 #[inline(always)]
 pub fn accumulate_immediate<M: Access>(
     regs: &mut Regs,
+    pc: u16,
     bus: &mut M,
     function: Arithmetic,
-) -> Ended<M>
-    ensures { Tries M.is_sure (Accumulate function Immediate)
+) -> Next<M>
+    ensures { Moves M.is_sure (Accumulate function Immediate) pc
         regs.old (M.memory bus.old) (M.is_ready bus.old) result regs.new (M.memory bus.new) }
 {
-    let value = read_byte(bus, regs.pc.wrapping_add(1))?;
+    let value = read_byte(bus, pc.wrapping_add(1))?;
     regs.accumulate(function, value);
-    advance(regs, 2)
+    Ok(pc.wrapping_add(2))
 }
 
 #[tactic(auto, using(crate::proofs::ReadyLemmas::readiness))]
 #[inline(always)]
-pub fn inr<M: Access>(regs: &mut Regs, bus: &mut M, at: Place) -> Ended<M>
-    ensures { Tries M.is_sure (Inr at) regs.old (M.memory bus.old) (M.is_ready bus.old)
+pub fn inr<M: Access>(regs: &mut Regs, pc: u16, bus: &mut M, at: Place) -> Next<M>
+    ensures { Moves M.is_sure (Inr at) pc regs.old (M.memory bus.old) (M.is_ready bus.old)
         result regs.new (M.memory bus.new) }
 {
     let value = operand(regs, bus, at)?;
     let more = value.wrapping_add(1);
     set_place(regs, bus, at, more)?;
     regs.flags = Flags::after(more, value % 16 == 15, regs.flags.cy);
-    advance(regs, 1)
+    Ok(pc.wrapping_add(1))
 }
 
 #[tactic(auto, using(crate::proofs::ReadyLemmas::readiness))]
 #[inline(always)]
-pub fn dcr<M: Access>(regs: &mut Regs, bus: &mut M, at: Place) -> Ended<M>
-    ensures { Tries M.is_sure (Dcr at) regs.old (M.memory bus.old) (M.is_ready bus.old)
+pub fn dcr<M: Access>(regs: &mut Regs, pc: u16, bus: &mut M, at: Place) -> Next<M>
+    ensures { Moves M.is_sure (Dcr at) pc regs.old (M.memory bus.old) (M.is_ready bus.old)
         result regs.new (M.memory bus.new) }
 {
     let value = operand(regs, bus, at)?;
     let less = value.wrapping_sub(1);
     set_place(regs, bus, at, less)?;
     regs.flags = Flags::after(less, value % 16 != 0, regs.flags.cy);
-    advance(regs, 1)
+    Ok(pc.wrapping_add(1))
 }
 
 #[inline(always)]
-pub fn inx<M: Access>(regs: &mut Regs, _bus: &mut M, at: Pair) -> Ended<M>
-    ensures { Tries M.is_sure (Inx at) regs.old (M.memory _bus.old) (M.is_ready _bus.old)
+pub fn inx<M: Access>(regs: &mut Regs, pc: u16, _bus: &mut M, at: Pair) -> Next<M>
+    ensures { Moves M.is_sure (Inx at) pc regs.old (M.memory _bus.old) (M.is_ready _bus.old)
         result regs.new (M.memory _bus.new) }
 {
     let value = regs.pair(at).wrapping_add(1);
     regs.set_pair(at, value);
-    advance(regs, 1)
+    Ok(pc.wrapping_add(1))
 }
 
 #[inline(always)]
-pub fn dcx<M: Access>(regs: &mut Regs, _bus: &mut M, at: Pair) -> Ended<M>
-    ensures { Tries M.is_sure (Dcx at) regs.old (M.memory _bus.old) (M.is_ready _bus.old)
+pub fn dcx<M: Access>(regs: &mut Regs, pc: u16, _bus: &mut M, at: Pair) -> Next<M>
+    ensures { Moves M.is_sure (Dcx at) pc regs.old (M.memory _bus.old) (M.is_ready _bus.old)
         result regs.new (M.memory _bus.new) }
 {
     let value = regs.pair(at).wrapping_sub(1);
     regs.set_pair(at, value);
-    advance(regs, 1)
+    Ok(pc.wrapping_add(1))
 }
 
 #[inline(always)]
-pub fn dad<M: Access>(regs: &mut Regs, _bus: &mut M, from: Pair) -> Ended<M>
-    ensures { Tries M.is_sure (Dad from) regs.old (M.memory _bus.old) (M.is_ready _bus.old)
+pub fn dad<M: Access>(regs: &mut Regs, pc: u16, _bus: &mut M, from: Pair) -> Next<M>
+    ensures { Moves M.is_sure (Dad from) pc regs.old (M.memory _bus.old) (M.is_ready _bus.old)
         result regs.new (M.memory _bus.new) }
 {
     let whole = u32::from(regs.pair(Pair::Hl)) + u32::from(regs.pair(from));
     regs.flags.cy = whole >= 65536;
     regs.set_pair(Pair::Hl, (whole % 65536) as u16);
-    advance(regs, 1)
+    Ok(pc.wrapping_add(1))
 }
 
 #[inline(always)]
-pub fn rotate<M: Access>(regs: &mut Regs, _bus: &mut M, way: Rotation) -> Ended<M>
-    ensures { Tries M.is_sure (Rotate way) regs.old (M.memory _bus.old) (M.is_ready _bus.old)
+pub fn rotate<M: Access>(regs: &mut Regs, pc: u16, _bus: &mut M, way: Rotation) -> Next<M>
+    ensures { Moves M.is_sure (Rotate way) pc regs.old (M.memory _bus.old) (M.is_ready _bus.old)
         result regs.new (M.memory _bus.new) }
 {
     let a = regs.a;
@@ -332,12 +312,12 @@ pub fn rotate<M: Access>(regs: &mut Regs, _bus: &mut M, way: Rotation) -> Ended<
         Rotation::Ral => (doubled + carry, a / 128 == 1),
         Rotation::Rar => (a / 2 + 128 * carry, a % 2 == 1),
     };
-    advance(regs, 1)
+    Ok(pc.wrapping_add(1))
 }
 
 #[inline(always)]
-pub fn daa<M: Access>(regs: &mut Regs, _bus: &mut M) -> Ended<M>
-    ensures { Tries M.is_sure Daa regs.old (M.memory _bus.old) (M.is_ready _bus.old)
+pub fn daa<M: Access>(regs: &mut Regs, pc: u16, _bus: &mut M) -> Next<M>
+    ensures { Moves M.is_sure Daa pc regs.old (M.memory _bus.old) (M.is_ready _bus.old)
         result regs.new (M.memory _bus.new) }
 {
     let six = if regs.a % 16 > 9 || regs.flags.ac {
@@ -350,130 +330,124 @@ pub fn daa<M: Access>(regs: &mut Regs, _bus: &mut M) -> Ended<M>
     let ac = regs.a % 16 + six >= 16;
     regs.a = ((sum + 96 * u16::from(cy)) % 256) as u8;
     regs.flags = Flags::after(regs.a, ac, cy);
-    advance(regs, 1)
+    Ok(pc.wrapping_add(1))
 }
 
 #[inline(always)]
-pub fn cma<M: Access>(regs: &mut Regs, _bus: &mut M) -> Ended<M>
-    ensures { Tries M.is_sure Cma regs.old (M.memory _bus.old) (M.is_ready _bus.old)
+pub fn cma<M: Access>(regs: &mut Regs, pc: u16, _bus: &mut M) -> Next<M>
+    ensures { Moves M.is_sure Cma pc regs.old (M.memory _bus.old) (M.is_ready _bus.old)
         result regs.new (M.memory _bus.new) }
 {
     regs.a = 255 - regs.a;
-    advance(regs, 1)
+    Ok(pc.wrapping_add(1))
 }
 
 #[inline(always)]
-pub fn stc<M: Access>(regs: &mut Regs, _bus: &mut M) -> Ended<M>
-    ensures { Tries M.is_sure Stc regs.old (M.memory _bus.old) (M.is_ready _bus.old)
+pub fn stc<M: Access>(regs: &mut Regs, pc: u16, _bus: &mut M) -> Next<M>
+    ensures { Moves M.is_sure Stc pc regs.old (M.memory _bus.old) (M.is_ready _bus.old)
         result regs.new (M.memory _bus.new) }
 {
     regs.flags.cy = true;
-    advance(regs, 1)
+    Ok(pc.wrapping_add(1))
 }
 
 #[inline(always)]
-pub fn cmc<M: Access>(regs: &mut Regs, _bus: &mut M) -> Ended<M>
-    ensures { Tries M.is_sure Cmc regs.old (M.memory _bus.old) (M.is_ready _bus.old)
+pub fn cmc<M: Access>(regs: &mut Regs, pc: u16, _bus: &mut M) -> Next<M>
+    ensures { Moves M.is_sure Cmc pc regs.old (M.memory _bus.old) (M.is_ready _bus.old)
         result regs.new (M.memory _bus.new) }
 {
     regs.flags.cy = !regs.flags.cy;
-    advance(regs, 1)
+    Ok(pc.wrapping_add(1))
 }
 
 #[inline(always)]
-pub fn jmp<M: Access>(regs: &mut Regs, bus: &mut M) -> Ended<M>
-    ensures { Tries M.is_sure Jmp regs.old (M.memory bus.old) (M.is_ready bus.old)
+pub fn jmp<M: Access>(regs: &mut Regs, pc: u16, bus: &mut M) -> Next<M>
+    ensures { Moves M.is_sure Jmp pc regs.old (M.memory bus.old) (M.is_ready bus.old)
         result regs.new (M.memory bus.new) }
 {
-    regs.pc = bus.try_word(regs.pc.wrapping_add(1))?;
-    Ok(Did::Went)
+    bus.try_word(pc.wrapping_add(1))
 }
 
 #[inline(always)]
-pub fn jump_if<M: Access>(regs: &mut Regs, bus: &mut M, condition: Condition) -> Ended<M>
-    ensures { Tries M.is_sure (JumpIf condition) regs.old (M.memory bus.old) (M.is_ready bus.old)
+pub fn jump_if<M: Access>(regs: &mut Regs, pc: u16, bus: &mut M, condition: Condition) -> Next<M>
+    ensures { Moves M.is_sure (JumpIf condition) pc regs.old (M.memory bus.old) (M.is_ready bus.old)
         result regs.new (M.memory bus.new) }
 {
-    let to = bus.try_word(regs.pc.wrapping_add(1))?;
+    let to = bus.try_word(pc.wrapping_add(1))?;
     if !condition.is_met(regs.flags) {
-        return advance(regs, 3);
+        return Ok(pc.wrapping_add(3));
     }
-    regs.pc = to;
-    Ok(Did::Went)
+    Ok(to)
 }
 
 #[tactic(auto, using(crate::proofs::ReadyLemmas::readiness))]
 #[inline(always)]
-pub fn call<M: Access>(regs: &mut Regs, bus: &mut M) -> Ended<M>
-    ensures { Tries M.is_sure Call regs.old (M.memory bus.old) (M.is_ready bus.old)
+pub fn call<M: Access>(regs: &mut Regs, pc: u16, bus: &mut M) -> Next<M>
+    ensures { Moves M.is_sure Call pc regs.old (M.memory bus.old) (M.is_ready bus.old)
         result regs.new (M.memory bus.new) }
 {
-    let to = bus.try_word(regs.pc.wrapping_add(1))?;
-    push_word(regs, bus, regs.pc.wrapping_add(3))?;
-    regs.pc = to;
-    Ok(Did::Went)
+    let to = bus.try_word(pc.wrapping_add(1))?;
+    push_word(regs, bus, pc.wrapping_add(3))?;
+    Ok(to)
 }
 
 #[tactic(auto, using(crate::proofs::ReadyLemmas::readiness))]
 #[inline(always)]
-pub fn call_if<M: Access>(regs: &mut Regs, bus: &mut M, condition: Condition) -> Ended<M>
-    ensures { Tries M.is_sure (CallIf condition) regs.old (M.memory bus.old) (M.is_ready bus.old)
+pub fn call_if<M: Access>(regs: &mut Regs, pc: u16, bus: &mut M, condition: Condition) -> Next<M>
+    ensures { Moves M.is_sure (CallIf condition) pc regs.old (M.memory bus.old) (M.is_ready bus.old)
         result regs.new (M.memory bus.new) }
 {
-    let to = bus.try_word(regs.pc.wrapping_add(1))?;
+    let to = bus.try_word(pc.wrapping_add(1))?;
     if !condition.is_met(regs.flags) {
-        return advance(regs, 3); // not called
+        return Ok(pc.wrapping_add(3)); // not called
     }
-    push_word(regs, bus, regs.pc.wrapping_add(3))?;
-    regs.pc = to;
-    Ok(Did::Went)
+    push_word(regs, bus, pc.wrapping_add(3))?;
+    Ok(to)
 }
 
 #[inline(always)]
-pub fn ret<M: Access>(regs: &mut Regs, bus: &mut M) -> Ended<M>
-    ensures { Tries M.is_sure Ret regs.old (M.memory bus.old) (M.is_ready bus.old)
+pub fn ret<M: Access>(regs: &mut Regs, pc: u16, bus: &mut M) -> Next<M>
+    ensures { Moves M.is_sure Ret pc regs.old (M.memory bus.old) (M.is_ready bus.old)
         result regs.new (M.memory bus.new) }
 {
-    regs.pc = bus.try_word(regs.sp)?;
+    let to = bus.try_word(regs.sp)?;
     regs.sp = regs.sp.wrapping_add(2);
-    Ok(Did::Went)
+    Ok(to)
 }
 
 #[inline(always)]
-pub fn ret_if<M: Access>(regs: &mut Regs, bus: &mut M, condition: Condition) -> Ended<M>
-    ensures { Tries M.is_sure (RetIf condition) regs.old (M.memory bus.old) (M.is_ready bus.old)
+pub fn ret_if<M: Access>(regs: &mut Regs, pc: u16, bus: &mut M, condition: Condition) -> Next<M>
+    ensures { Moves M.is_sure (RetIf condition) pc regs.old (M.memory bus.old) (M.is_ready bus.old)
         result regs.new (M.memory bus.new) }
 {
     if condition.is_met(regs.flags) {
-        return ret(regs, bus);
+        return ret(regs, pc, bus);
     }
-    advance(regs, 1)
+    Ok(pc.wrapping_add(1))
 }
 
 #[tactic(auto, using(crate::proofs::ReadyLemmas::readiness))]
 #[inline(always)]
-pub fn rst<M: Access>(regs: &mut Regs, bus: &mut M, restart: Restart) -> Ended<M>
-    ensures { Tries M.is_sure (Rst restart) regs.old (M.memory bus.old) (M.is_ready bus.old)
+pub fn rst<M: Access>(regs: &mut Regs, pc: u16, bus: &mut M, restart: Restart) -> Next<M>
+    ensures { Moves M.is_sure (Rst restart) pc regs.old (M.memory bus.old) (M.is_ready bus.old)
         result regs.new (M.memory bus.new) }
 {
-    push_word(regs, bus, regs.pc.wrapping_add(1))?;
-    regs.pc = 8 * u16::from(restart as u8);
-    Ok(Did::Went)
+    push_word(regs, bus, pc.wrapping_add(1))?;
+    Ok(8 * u16::from(restart as u8))
 }
 
 #[inline(always)]
-pub fn pchl<M: Access>(regs: &mut Regs, _bus: &mut M) -> Ended<M>
-    ensures { Tries M.is_sure Pchl regs.old (M.memory _bus.old) (M.is_ready _bus.old)
+pub fn pchl<M: Access>(regs: &mut Regs, pc: u16, _bus: &mut M) -> Next<M>
+    ensures { Moves M.is_sure Pchl pc regs.old (M.memory _bus.old) (M.is_ready _bus.old)
         result regs.new (M.memory _bus.new) }
 {
-    regs.pc = regs.pair(Pair::Hl);
-    Ok(Did::Went)
+    Ok(regs.pair(Pair::Hl))
 }
 
 #[tactic(auto, using(crate::proofs::ReadyLemmas::readiness))]
 #[inline(always)]
-pub fn push<M: Access>(regs: &mut Regs, bus: &mut M, what: Saved) -> Ended<M>
-    ensures { Tries M.is_sure (Push what) regs.old (M.memory bus.old) (M.is_ready bus.old)
+pub fn push<M: Access>(regs: &mut Regs, pc: u16, bus: &mut M, what: Saved) -> Next<M>
+    ensures { Moves M.is_sure (Push what) pc regs.old (M.memory bus.old) (M.is_ready bus.old)
         result regs.new (M.memory bus.new) }
 {
     let value = match what {
@@ -483,12 +457,12 @@ pub fn push<M: Access>(regs: &mut Regs, bus: &mut M, what: Saved) -> Ended<M>
         Saved::Psw => word_of(regs.flags.byte(), regs.a),
     };
     push_word(regs, bus, value)?;
-    advance(regs, 1)
+    Ok(pc.wrapping_add(1))
 }
 
 #[inline(always)]
-pub fn pop<M: Access>(regs: &mut Regs, bus: &mut M, what: Saved) -> Ended<M>
-    ensures { Tries M.is_sure (Pop what) regs.old (M.memory bus.old) (M.is_ready bus.old)
+pub fn pop<M: Access>(regs: &mut Regs, pc: u16, bus: &mut M, what: Saved) -> Next<M>
+    ensures { Moves M.is_sure (Pop what) pc regs.old (M.memory bus.old) (M.is_ready bus.old)
         result regs.new (M.memory bus.new) }
 {
     let value = bus.try_word(regs.sp)?;
@@ -502,45 +476,45 @@ pub fn pop<M: Access>(regs: &mut Regs, bus: &mut M, what: Saved) -> Ended<M>
         }
     }
     regs.sp = regs.sp.wrapping_add(2);
-    advance(regs, 1)
+    Ok(pc.wrapping_add(1))
 }
 
 #[tactic(auto, using(crate::proofs::ReadyLemmas::readiness))]
 #[inline(always)]
-pub fn xthl<M: Access>(regs: &mut Regs, bus: &mut M) -> Ended<M>
-    ensures { Tries M.is_sure Xthl regs.old (M.memory bus.old) (M.is_ready bus.old)
+pub fn xthl<M: Access>(regs: &mut Regs, pc: u16, bus: &mut M) -> Next<M>
+    ensures { Moves M.is_sure Xthl pc regs.old (M.memory bus.old) (M.is_ready bus.old)
         result regs.new (M.memory bus.new) }
 {
     let value = bus.try_word(regs.sp)?;
-    store_word(bus, regs.sp, regs.pair(Pair::Hl))?;
+    bus.store_word(regs.sp, regs.pair(Pair::Hl))?;
     regs.set_pair(Pair::Hl, value);
-    advance(regs, 1)
+    Ok(pc.wrapping_add(1))
 }
 
 #[inline(always)]
-pub fn sphl<M: Access>(regs: &mut Regs, _bus: &mut M) -> Ended<M>
-    ensures { Tries M.is_sure Sphl regs.old (M.memory _bus.old) (M.is_ready _bus.old)
+pub fn sphl<M: Access>(regs: &mut Regs, pc: u16, _bus: &mut M) -> Next<M>
+    ensures { Moves M.is_sure Sphl pc regs.old (M.memory _bus.old) (M.is_ready _bus.old)
         result regs.new (M.memory _bus.new) }
 {
     regs.sp = regs.pair(Pair::Hl);
-    advance(regs, 1)
+    Ok(pc.wrapping_add(1))
 }
 
 #[inline(always)]
-pub fn input<M: Access>(regs: &mut Regs, bus: &mut M) -> Ended<M>
-    ensures { Tries M.is_sure In regs.old (M.memory bus.old) (M.is_ready bus.old)
+pub fn input<M: Access>(regs: &mut Regs, pc: u16, bus: &mut M) -> Next<M>
+    ensures { Moves M.is_sure In pc regs.old (M.memory bus.old) (M.is_ready bus.old)
         result regs.new (M.memory bus.new) }
 {
-    read_byte(bus, regs.pc.wrapping_add(1))?;
+    read_byte(bus, pc.wrapping_add(1))?;
     regs.a = 255;
-    advance(regs, 2)
+    Ok(pc.wrapping_add(2))
 }
 
 #[inline(always)]
-pub fn output<M: Access>(regs: &mut Regs, bus: &mut M) -> Ended<M>
-    ensures { Tries M.is_sure Out regs.old (M.memory bus.old) (M.is_ready bus.old)
+pub fn output<M: Access>(regs: &mut Regs, pc: u16, bus: &mut M) -> Next<M>
+    ensures { Moves M.is_sure Out pc regs.old (M.memory bus.old) (M.is_ready bus.old)
         result regs.new (M.memory bus.new) }
 {
-    read_byte(bus, regs.pc.wrapping_add(1))?;
-    advance(regs, 2)
+    read_byte(bus, pc.wrapping_add(1))?;
+    Ok(pc.wrapping_add(2))
 }

@@ -1,21 +1,20 @@
 -- What an attempt comes to over a memory of which reads are no looks.
-use mir.Val.{bool_byte}
-use Rattle.std.proofs.Common.{◌≡◌, ◌<◌, ◌≤◌, ◌+◌, ℕ, zero, suc, Bool, true, false, cond, Option, Some, Ok, Err, refl, sym, subst, ap, ◌∙◌, add-one, arith}
+use Rattle.std.proofs.Common.{◌≡◌, ◌<◌, ◌+◌, ℕ, zero, suc, Bool, false, Option, Some, Ok, Err, refl, sym, subst, ap, ◌∙◌, add-one, arith}
 use Rattle.std.specs.Borrow.{GName}
 use Rattle.std.specs.declared.result.Result.{Result}
 use Rattle.i8080.specs.declared.registers.Regs.{Regs}
-use Rattle.i8080.specs.declared.outcome.Did.{Did}
 use Rattle.i8080.specs.declared.outcome.Did.TheVariants as did
 use Rattle.i8080.specs.declared.opcode.Op.{Op}
 use Rattle.i8080.specs.declared.opcode.Op.TheVariants.{Hlt}
 use Rattle.i8080.specs.Memory.{Own, Looks, Memory, bytes, look, look_all}
 use Rattle.i8080.specs.Reading.{Reading, end_of, asked}
-use Rattle.i8080.specs.End.{End, Went, Halt, Undefined}
+use Rattle.i8080.specs.End.{End}
 use Rattle.i8080.specs.Instruction.{instruction, decided}
 use Rattle.i8080.specs.Opcodes.{decoded, opcode_of}
 use Rattle.i8080.proofs.Decoding.{decoded_some}
-use Rattle.i8080.specs.Performs.{did_of, regs_after, own_after}
-use Rattle.i8080.specs.Attempts.{Guesses, Tries, TriesByte}
+use Rattle.i8080.specs.Performs.{did_of}
+use Rattle.i8080.specs.Attempts.{Guesses, TriesByte}
+use Rattle.i8080.specs.Moves.{Moves, MovesByte}
 use Rattle.known_run.specs.KnownRun.{GoesOn, RunsKnown}
 
 -- Two memories with the same parts are one.
@@ -30,25 +29,9 @@ goes_on r m r' m' g = record {
   quiet = g.looks;
 }
 
--- A refusal changes nothing, nor do HLT and an undefined byte.
+-- A refusal changes nothing.
 pub same_after_refusal : {X : Type 0} (t : Reading End) (r : Regs) (m : Memory) (x : X) (r' : Regs) (m' : Memory) → Guesses t r m (Err x) r' m' → (r' ≡ r) × (m' ≡ m)
 same_after_refusal t r m x r' m' g = (g.err_regs, same_parts m m' g.err_own g.beneath g.looks g.lender)
-
-end_of_halt : (e : End) (r : Regs) (own : Own) → did.Halt ≡ did_of e → (regs_after e r ≡ r) × (own_after e own ≡ own)
-end_of_halt (Went x w) r own h = let no : did.Halt ≡ did.Went = h in cc
-end_of_halt Halt r own h = (refl, refl)
-end_of_halt (Undefined byte) r own h = (refl, refl)
-
-end_of_undefined : (e : End) (r : Regs) (own : Own) (byte : ℕ) → did.Undefined byte ≡ did_of e → (regs_after e r ≡ r) × (own_after e own ≡ own)
-end_of_undefined (Went x w) r own byte h = let no : did.Undefined byte ≡ did.Went = h in cc
-end_of_undefined Halt r own byte h = (refl, refl)
-end_of_undefined (Undefined b) r own byte h = (refl, refl)
-
-pub same_after_halt : {X : Type 0} (t : Reading End) (r : Regs) (m : Memory) (r' : Regs) (m' : Memory) → Guesses {X = X} t r m (Ok did.Halt) r' m' → (r' ≡ r) × (m' ≡ m)
-same_after_halt t r m r' m' g = let h = end_of_halt (end_of t (bytes m)) r m.own g.did in (g.regs ∙ h.0, same_parts m m' (g.own ∙ h.1) g.beneath g.looks g.lender)
-
-pub same_after_undefined : {X : Type 0} (t : Reading End) (r : Regs) (m : Memory) (byte : ℕ) (r' : Regs) (m' : Memory) → Guesses {X = X} t r m (Ok (did.Undefined byte)) r' m' → (r' ≡ r) × (m' ≡ m)
-same_after_undefined t r m byte r' m' g = let h = end_of_undefined (end_of t (bytes m)) r m.own byte g.did in (g.regs ∙ h.0, same_parts m m' (g.own ∙ h.1) g.beneath g.looks g.lender)
 
 module _ {M : Type 0} (memory : M → Memory) (limit n : ℕ) (r : Regs) (m : M) (x : Regs) (y : M) (r' : Regs) (m' : M) where
   -- One more instruction.
@@ -87,18 +70,9 @@ module _ {X : Type 0} (r : Regs) (m : Memory) (r' : Regs) (m' : Memory) (quiet :
   }
 
 -- What an arm of the dispatch does for its byte, if it executes the instruction with this opcode.
-pub arm : {X M : Type 0} (memory : M → Memory) (sure : Bool) (byte : ℕ) (r : Regs) (m : Memory) (ready : ℕ → Bool) (result : Result Did X) (r' : Regs) (m' : M) (op : Op) (done : Result Did X) (x : Regs) (y : M)
-    → byte ≡ opcode_of op → result ≡ done → r' ≡ x → m' ≡ y → Tries sure op r m ready done x (memory y) → TriesByte sure byte r m ready result r' (memory m')
-arm memory sure byte r m ready result r' m' op done x y e f g h a = let decodes : decoded byte ≡ Some op = decoded_some op byte (sym e) in rw (decodes, f, g, h) a.attempts
-
--- A truth value as a number.
-pub bit : (b : Bool) (k : ℕ) → k ≡ bool_byte b → k ≡ cond b 1 0
-bit true k e = e
-bit false k e = e
-
-pub at_most : (b : Bool) (k : ℕ) → k ≡ bool_byte b → k ≤ 1
-at_most true k e = omega (arith, e)
-at_most false k e = omega (arith, e)
+pub arm : {X M : Type 0} (memory : M → Memory) (sure : Bool) (byte pc : ℕ) (r : Regs) (m : Memory) (ready : ℕ → Bool) (result : Result ℕ X) (r' : Regs) (m' : M) (op : Op) (done : Result ℕ X) (x : Regs) (y : M)
+    → byte ≡ opcode_of op → result ≡ done → r' ≡ x → m' ≡ y → Moves sure op pc r m ready done x (memory y) → MovesByte sure byte pc r m ready result r' (memory m')
+arm memory sure byte pc r m ready result r' m' op done x y e f g h a = let decodes : decoded byte ≡ Some op = decoded_some op byte (sym e) in rw (decodes, f, g, h) a.tries.attempts
 
 -- HLT does not go on.
 halts : {X : Type 0} (byte : ℕ) (r : Regs) (m : Memory) (ready : ℕ → Bool) (r' : Regs) (m' : Memory) → byte ≡ 118 → TriesByte {X = X} false byte r m ready (Ok did.Went) r' m' → ⊥
@@ -107,26 +81,16 @@ halts byte r m ready r' m' e a =
     let no : did.Went ≡ did.Halt = (a.unsure refl).did ∙ ap (λ op. did_of (end_of (decided byte op r) (bytes m))) decodes in
     let never : ⊥ = cc in never
 
--- After an instruction that went, and after one that did not. The byte is the opcode at PC, or HLT in its place.
+-- After an instruction that went, and after one that was refused. The byte is the opcode at PC, or HLT in its place.
 module _ {X : Type 0} {M : Type 0} (memory : M → Memory) (limit n : ℕ) (r : Regs) (m : M) (x : Regs) (y : M) (r' : Regs) (m' : M) (ran : RunsKnown memory limit n r m x y) (ready : ℕ → Bool) (byte : ℕ) where
-  stays : (result : Result Did X) → (result ≡ Ok did.Went → ⊥) → TriesByte false byte x (memory y) ready result r' (memory m') → (r' ≡ x) × (memory m' ≡ memory y)
-  stays (Ok did.Went) apart a = absurd (apart refl)
-  stays (Ok did.Halt) apart a = same_after_halt (decided byte (decoded byte) x) x (memory y) r' (memory m') (a.unsure refl)
-  stays (Ok (did.Undefined other)) apart a = same_after_undefined (decided byte (decoded byte) x) x (memory y) other r' (memory m') (a.unsure refl)
-  stays (Err e) apart a = same_after_refusal (decided byte (decoded byte) x) x (memory y) e r' (memory m') (a.unsure refl)
-
-  went_on : ((byte ≡ 118 → ⊥) → byte ≡ bytes (memory y) x.pc) → ((byte ≡ 118 → ⊥) → look (memory y).own (memory y).looks x.pc ≡ (memory y).looks) → ((byte ≡ 118 → ⊥) → x.pc < limit)
+  pub goes_once_more : ((byte ≡ 118 → ⊥) → byte ≡ bytes (memory y) x.pc) → ((byte ≡ 118 → ⊥) → look (memory y).own (memory y).looks x.pc ≡ (memory y).looks) → ((byte ≡ 118 → ⊥) → x.pc < limit)
       → TriesByte {X = X} false byte x (memory y) ready (Ok did.Went) r' (memory m') → RunsKnown memory limit (n + 1) r m r' m'
-  went_on value unlooked low a =
+  goes_once_more value unlooked low a =
       let some : byte ≡ 118 → ⊥ = λ e. halts byte x (memory y) ready r' (memory m') e a in
       let here = subst (λ (b : ℕ). TriesByte {X = X} false b x (memory y) ready (Ok did.Went) r' (memory m')) (value some) a in
       runs_one_more memory limit n r m x y r' m' ran (low some) (goes_on x (memory y) r' (memory m') (at_pc x (memory y) r' (memory m') (unlooked some) (here.unsure refl)))
 
-  pub next : (went : Bool) (k : ℕ) (result : Result Did X) → k ≡ cond went 1 0 → (went ≡ true → result ≡ Ok did.Went) → (went ≡ false → result ≡ Ok did.Went → ⊥)
-      → ((byte ≡ 118 → ⊥) → byte ≡ bytes (memory y) x.pc) → ((byte ≡ 118 → ⊥) → look (memory y).own (memory y).looks x.pc ≡ (memory y).looks) → ((byte ≡ 118 → ⊥) → x.pc < limit)
-      → TriesByte false byte x (memory y) ready result r' (memory m') → RunsKnown memory limit (n + k) r m r' m'
-  next true k result e gone other value unlooked low a =
-      rw e (went_on value unlooked low (subst (λ (z : Result Did X). TriesByte false byte x (memory y) ready z r' (memory m')) (gone refl) a))
-  next false k result e gone other value unlooked low a =
-      let same = stays result (other refl) a in
-      subst (λ (j : ℕ). RunsKnown memory limit j r m r' m') (omega (arith, e)) (runs_no_more memory limit n r m x y r' m' ran same.0 same.1)
+  pub stays : (e : X) → TriesByte false byte x (memory y) ready (Err e) r' (memory m') → RunsKnown memory limit n r m r' m'
+  stays e a =
+      let same = same_after_refusal (decided byte (decoded byte) x) x (memory y) e r' (memory m') (a.unsure refl) in
+      runs_no_more memory limit n r m x y r' m' ran same.0 same.1

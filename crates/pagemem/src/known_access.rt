@@ -59,4 +59,14 @@ impl Access for Overlay {
     fn put(&mut self, a: u16, value: u8) {
         self.write(a, value)
     }
+
+    // A word over the end of a page is refused, so that one page is tested and written.
+    #[inline(always)]
+    fn store_word(&mut self, a: u16, value: u16) -> Result<(), Refused> {
+        if a % 256 == 255 || !self.is_ready(a) {
+            return Err(Refused);
+        }
+        self.write_word(a, value);
+        Ok(())
+    }
 }

@@ -1,6 +1,7 @@
 ghost use Rattle.std.specs.Prelude.{◌≡◌, true, false, ◌<◌, ◌≤◌, ◌+◌, ◌*◌, ◌⊎◌, ◌%◌, ◌∷◌, ◌++◌, [], ℕ, IsTrue, IfOk, OnOk, OnErr};
 ghost use Rattle.std.specs.Prelude.{IfNone, IfSome, None, Some, length, slice_index, is_some};
 ghost use Rattle.i8080.specs.End.{cells_from};
+ghost use Rattle.i8080.specs.Instruction.{one_word};
 ghost use Rattle.i8080.specs.Memory.{bytes, look, write, write_all, is_among, over};
 ghost use Rattle.i8080.specs.Registers.{onward, word};
 ghost use Rattle.pagemem.specs.Cells.{own_in, is_ready_in};
@@ -262,6 +263,19 @@ impl Overlay {
     {
         self.cells.write_in_page(at, values);
         self.known.set_cells(at, values);
+    }
+
+    /// Writes a word, low byte first, to two cells of a page that is ready.
+    #[inline(always)]
+    pub fn write_word(&mut self, a: u16, value: u16)
+        requires ready { IsTrue (is_ready_at self.old a) }
+        requires page { a % 256 < 255 }
+        ensures kept { (q : ℕ) → IsTrue (is_ready_at self.old q) → IsTrue (is_ready_at self.new q) }
+        ensures own { own_of self.new ≡ write_all (own_of self.old) (one_word a value) }
+        ensures looks { looks_of self.new ≡ looks_of self.old }
+        ensures beneath { beneath_of self.new ≡ beneath_of self.old }
+    {
+        self.write_in_page(a, &[(value % 256) as u8, (value / 256) as u8])
     }
 
     /// Writes bytes to ready cells, starting at `at`; the cell after 0FFFFH is 0000H.

@@ -1,23 +1,17 @@
-use Rattle.std.proofs.Common.{◌≡◌, ◌+◌, ℕ, Bool, refl, subst, arith}
-use Rattle.known_run.specs.KnownRun.{RunsKnown}
-use Rattle.i8080.specs.Attempts.{TriesByte}
-use Rattle.known_run.proofs.KnownRunLemmas.{at_most, bit, next}
+use Rattle.std.proofs.Common.{ℕ, Bool, Ok, refl, subst}
+use Rattle.std.specs.declared.result.Result.{Result}
+use Rattle.i8080.specs.Moves.{MovesByte, with_pc}
+use Rattle.known_run.proofs.KnownRunLemmas.{goes_once_more}
 use Rattle.known_run.proofs.run.run_rare.Goals as goal
 
-pub returns-in-Some : goal.returns-in-Some
-returns-in-Some g c =
+pub returns-in-Some-Ok-clause-ran : goal.returns-in-Some-Ok-clause-ran
+returns-in-Some-Ok-clause-ran g c =
     let memory = g.M.Access.memory in
-    let limit = g.M.Access.opcode_limit in
-    let x = c.args.regs.now in
+    let x = with_pc c.args.pc c.args.regs.now in
     let bus = c.args.bus.now in
     let ready = g.M.Access.is_ready bus in
     let byte = c.opcode-byte.result in
     let e = c.opcode-byte.ensures in
-    let gone = c.has_gone.result in
-    let count = c.from.result in
-    let quiet = subst (λ (s : Bool). TriesByte s byte x (memory bus) ready c.in-Some.ended c.rare.new.regs (memory c.rare.new.bus)) c.requires c.in-Some.ensures.executed in
-    let ran = next memory limit 0 x bus x bus c.rare.new.regs c.rare.new.bus (refl, refl) ready byte gone count c.in-Some.ended (bit gone count c.from.ensures) c.has_gone.ensures.gone c.has_gone.ensures.other e.value e.unlooked e.low quiet in
-    record {
-      within = omega (arith, at_most gone count c.from.ensures);
-      ran = subst (λ (j : ℕ). RunsKnown memory limit j x bus c.rare.new.regs c.rare.new.bus) (let e : 0 + count ≡ count = omega arith in e) ran;
-    }
+    let moved = subst (λ (z : Result ℕ g.row.M-Refusal.Denot). MovesByte {X = g.row.M-Refusal.Denot} g.M.Access.is_sure byte c.args.pc c.args.regs.now (memory bus) ready z c.rare.new.regs (memory c.rare.new.bus)) c.in-Some-Ok.field-0-is c.in-Some-Ok.ensures.executed in
+    let quiet = subst (λ (s : Bool). MovesByte {X = g.row.M-Refusal.Denot} s byte c.args.pc c.args.regs.now (memory bus) ready (Ok c.in-Some-Ok.to) c.rare.new.regs (memory c.rare.new.bus)) c.requires moved in
+    goes_once_more memory g.M.Access.opcode_limit 0 x bus x bus (with_pc c.in-Some-Ok.to c.rare.new.regs) c.rare.new.bus (refl, refl) ready byte e.value e.unlooked e.low quiet
