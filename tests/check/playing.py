@@ -62,7 +62,7 @@ def hex_of(word: str) -> bytes:
 def kept_in(answer: list[str]) -> tuple[int, tuple[int, ...]]:
     """Returns how many steps were executed, and the kept ones."""
     executed, *kept = (int(word) for word in answer[-2].split()[1:])
-    if answer[-1] != 'failures 0':
+    if answer[-1] != 'left out 0':
         raise Difference('an allocation failed')
     return executed, tuple(kept)
 

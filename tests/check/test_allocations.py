@@ -33,9 +33,9 @@ class Failures:
         answer = [line for line in got if line != OUT_OF_MEMORY]
         if OUT_OF_MEMORY in got and (command == 'run' or command.startswith('ask')):
             self.is_whole = False
-        counts = wanted[-1:] == ['failures 0']
+        counts = wanted[-1:] == ['left out 0']
         if counts:
-            self.is_whole &= answer[-1] == 'failures 0'
+            self.is_whole &= answer[-1] == 'left out 0'
         if not self.is_whole:
             if counts:
                 steps = [int(step) for step in answer[-2].split()[2:]]

@@ -17,7 +17,7 @@ LIMIT = 1500
 """The most lines for the first group."""
 
 CHECKPOINT_WORDS = {
-    'AllStand', 'RestartsCount', 'HasEffects', 'EndsAs', 'KeepsUntouched', 'AddsAllDueTo', 'RerunsTo', 'AddsDueTo', 'SameOptions',
+    'AllStand', 'HasEffects', 'EndsAs', 'KeepsUntouched', 'AddsEachDueTo', 'AddsDueTo', 'SameOptions',
     'TicksTo', 'session_answers', 'rerun_start', 'with_no_checkpoint',
 }
 """The words of clauses that say which steps a run executes again, what becomes of the checkpoints and of the meter, and which allocations may

@@ -137,7 +137,7 @@ ALLOWED = {
     'hostfiles::HostFiles::next_with': 'the names after a run',
     'machine::Session::tail': "part of the library's surface, as the other parts of a session are",
     'replay::Runner::kept': 'the steps of the checkpoints',
-    'replay::Runner::alloc_failures': 'how often memory for a checkpoint was refused',
+    'replay::Runner::left_out': 'the last due step that has no checkpoint',
 }
 """The functions that only users call, each with what it is for."""
 

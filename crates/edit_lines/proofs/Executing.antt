@@ -4,7 +4,7 @@ use Rattle.streams.specs.Streams.{WritesPart, WritesWhole}
 use Rattle.machine.specs.Inputs.{Session}
 use Rattle.machine.specs.PlainState.{PlainRun, plain_run}
 use Rattle.replay.specs.Edits.{edited}
-use Rattle.replay.specs.RunnerView.{RunnerView, SameOptions, AddsDueTo, AddsAllDueTo, RestartsCount, rerun_start}
+use Rattle.replay.specs.RunnerView.{RunnerView, SameOptions, AddsEachDueTo, rerun_start}
 use Rattle.edit_lines.specs.declared.line.Command.{Command}
 use Rattle.edit_lines.specs.declared.line.Command.TheVariants.{Edit, Run, DropOldest}
 use Rattle.edit_lines.specs.declared.ending.ReplayFault.{ReplayFault}
@@ -41,16 +41,14 @@ replied c old new text (Err f) did is w = let no = w.0 in absurd (cc)
 -- The effect of a run, from its report.
 pub run_effect : (old : RunnerView) (meter : ℕ) (new : RunnerView) (metered : ℕ) (run : PlainRun) → run ≡ plain_run old.session → new.session ≡ old.session
     → SameOptions old new → metered + rerun_start old ≡ meter + run.steps
-    → AddsDueTo old new run.steps × AddsAllDueTo old new run.steps × RestartsCount old new run.steps → RunEffect old meter new metered
+    → AddsEachDueTo old new run.steps → RunEffect old meter new metered
 run_effect old meter new metered run is session options ticked made =
     let steps : run.steps ≡ (plain_run old.session).steps = ap (λ (r : PlainRun). r.steps) is in
     record {
       session = session;
       options = options;
       ticked = rw steps at ticked;
-      reran = subst (λ (k : ℕ). AddsDueTo old new k) steps made.0;
-      complete = subst (λ (k : ℕ). AddsAllDueTo old new k) steps made.1;
-      counted = subst (λ (k : ℕ). RestartsCount old new k) steps made.2;
+      reran = subst (λ (k : ℕ). AddsEachDueTo old new k) steps made;
     }
 
 -- The effect of a line, from the effect of its command.

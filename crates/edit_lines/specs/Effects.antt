@@ -4,7 +4,7 @@ use Rattle.machine.specs.Inputs.{Session}
 use Rattle.machine.specs.Machine.{session_answers}
 use Rattle.machine.specs.PlainState.{plain_run}
 use Rattle.replay.specs.Edits.{edited}
-use Rattle.replay.specs.RunnerView.{RunnerView, SameOptions, KeepsUntouched, DropsOldest, AddsDueTo, AddsAllDueTo, RestartsCount, TicksTo, rerun_start}
+use Rattle.replay.specs.RunnerView.{RunnerView, SameOptions, KeepsUntouched, DropsOldest, AddsDueTo, AddsEachDueTo, TicksTo, rerun_start}
 use Rattle.edit_lines.specs.declared.line.Command.{Command}
 use Rattle.edit_lines.specs.declared.line.Command.TheVariants.{Edit, Run, DropOldest}
 use Rattle.edit_lines.specs.declared.ending.ReplayFault.{ReplayFault}
@@ -15,7 +15,7 @@ use Rattle.edit_lines.specs.Faults.{AreRead}
 -- An edit that is applied leaves exactly the checkpoints that it does not touch; an edit that is refused changes nothing.
 abbrev pub EditEffect : Result Session ℕ → RunnerView → RunnerView → Type 0
 EditEffect (Ok s) old new =
-    (new.session ≡ s) × SameOptions old new × (new.alloc_failures ≡ old.alloc_failures)
+    (new.session ≡ s) × SameOptions old new × (new.left_out ≡ old.left_out)
     × KeepsUntouched (session_answers old.session) (session_answers new.session) old.checkpoints new.checkpoints
 EditEffect (Err n) old new = new ≡ old
 
@@ -24,9 +24,7 @@ pub record RunEffect (old : RunnerView) (meter : ℕ) (new : RunnerView) (metere
   pub session : new.session ≡ old.session
   pub options : SameOptions old new
   pub ticked : metered + rerun_start old ≡ meter + (plain_run old.session).steps
-  pub reran : AddsDueTo old new (plain_run old.session).steps
-  pub complete : AddsAllDueTo old new (plain_run old.session).steps
-  pub counted : RestartsCount old new (plain_run old.session).steps
+  pub reran : AddsEachDueTo old new (plain_run old.session).steps
 
 -- What a command does to a runner and a meter.
 abbrev pub Effect : Command → RunnerView → ℕ → RunnerView → ℕ → Type 0
@@ -47,7 +45,6 @@ pub record RunCutShort (old : RunnerView) (meter : ℕ) (new : RunnerView) (mete
   pub options : SameOptions old new
   pub ticked : TicksTo (session_answers old.session) old.session.limit (rerun_start old) meter metered
   pub reran : AddsDueTo old new old.session.limit
-  pub counted : RestartsCount old new old.session.limit
 
 -- These first lines of the bytes had their effects, and then the run of the next line was cut short.
 pub record EffectsCutShort (first : RunnerView) (begun : ℕ) (bytes : List ℕ) (done : List (List ℕ)) (now : RunnerView) (meter : ℕ) : Type 0 where

@@ -35,16 +35,15 @@ none_looked noted looked none (Cell a) asked o = let no : is_among a looked.cell
 none_looked noted looked none (Script k) asked o = absurd (let both : false ≡ true = sym (none.questions.offsets k) ∙ asked in cc)
 none_looked noted looked none (OfHost a) asked o = absurd (let both : false ≡ true = sym (none.questions.files a) ∙ asked in cc)
 
--- The first looks after a step.
-pub record Notes (f : Answers) (old new : FirstLooksView) (n : ℕ) (looked : AllLooks) (refused refuses : ℕ) : Type 0 where
+-- The first looks after a step; if P holds, each step so far is noted.
+pub record Notes (f : Answers) (old new : FirstLooksView) (n : ℕ) (looked : AllLooks) (P : Type 0) : Type 0 where
   pub noted : IsFirstLooks f new
   pub looks : n + 1 ≤ new.seen → AllNoted new looked
   pub grows : old.seen ≤ new.seen
   pub within : (new.seen ≡ old.seen) ⊎ (new.seen ≡ n + 1)
-  pub counted : (refused ≤ refuses) × (refuses ≤ refused + 1)
-  pub all : refuses ≡ refused → n ≤ old.seen → n + 1 ≤ new.seen
+  pub all : P → n ≤ old.seen → n + 1 ≤ new.seen
 
-module _ (f : Answers) (old new : FirstLooksView) (n refused refuses : ℕ) (looked after_step left : AllLooks) (known : IsFirstLooks f old) (all : n ≤ old.seen → AllNoted old looked)
+module _ (f : Answers) (old new : FirstLooksView) (n : ℕ) (P : Type 0) (looked after_step left : AllLooks) (known : IsFirstLooks f old) (all : n ≤ old.seen → AllNoted old looked)
     (extends : KeepsLooks looked after_step) (asks : AddsLooks looked (looks f n) after_step) (same_cells : left.cells ≡ after_step.cells) where
   or_both : (a b : Bool) → (a ≡ true → b ≡ true) → b ≡ (a || b)
   or_both true b h = h refl
@@ -66,13 +65,12 @@ module _ (f : Answers) (old new : FirstLooksView) (n refused refuses : ℕ) (loo
   left_looked none (OfHost a) e = absurd (let both : false ≡ true = sym (none.files a) ∙ e in cc)
 
   -- The first looks stay the same.
-  stays : new ≡ old → refuses ≡ refused → HasNoQuestions left → (n ≡ old.seen → ⊥) → (n + 1 ≤ old.seen → AllNoted old after_step) → Notes f old new n left refused refuses
-  stays same none drained apart noted_all = record {
+  stays : new ≡ old → HasNoQuestions left → (n ≡ old.seen → ⊥) → (n + 1 ≤ old.seen → AllNoted old after_step) → Notes f old new n left P
+  stays same drained apart noted_all = record {
     noted = subst (λ (t : FirstLooksView). IsFirstLooks f t) (sym same) known;
     looks = subst (λ (t : FirstLooksView). n + 1 ≤ t.seen → AllNoted t left) (sym same) (λ past q asked. noted_all past q (left_looked drained q asked));
     grows = let e : new.seen ≡ old.seen = ap (λ (t : FirstLooksView). t.seen) same in omega arith;
     within = inl (ap (λ (t : FirstLooksView). t.seen) same);
-    counted = omega (arith, none);
     all = λ _ low. let e : new.seen ≡ old.seen = ap (λ (t : FirstLooksView). t.seen) same in elim (eq-or-lt_of_le {n = n} {m = old.seen} low) [ inl same_step ↦ absurd (apart same_step) | inr l ↦ omega (arith, l, e) ];
   }
 
@@ -89,13 +87,12 @@ module _ (f : Answers) (old new : FirstLooksView) (n refused refuses : ℕ) (loo
           let e : Some m ≡ None = sym there ∙ sym (known.entry q) ∙ none in cc
 
   -- The step is noted now.
-  seen_now : n ≡ old.seen → NotesSeenStep old new (looks_from (length looked.cells) after_step) → refuses ≡ refused → HasNoQuestions left → Notes f old new n left refused refuses
-  seen_now here now none drained = record {
+  seen_now : n ≡ old.seen → NotesSeenStep old new (looks_from (length looked.cells) after_step) → HasNoQuestions left → Notes f old new n left P
+  seen_now here now drained = record {
     noted = record { entry = λ q. entry q ∙ sym (ap (first_look f q) now.seen ∙ ap (first_look f q) (add-one old.seen)) };
     looks = λ _ q asked none. has_entry (step_of old q) (is_looked_at looked q) (is_looked_at (looks_from (length looked.cells) after_step) q) (is_looked_at after_step q) old.seen (λ e o. before q e o) (more_looked q) (left_looked drained q asked) (sym (entered q) ∙ none);
     grows = omega (arith, now.seen);
     within = inr (let next = now.seen in let e : new.seen ≡ n + 1 = omega (arith, next, here) in e);
-    counted = omega (arith, none);
     all = λ _ _. let next = now.seen in omega (arith, next, here);
   } where
     before : AllNoted old looked
@@ -113,32 +110,31 @@ module _ (f : Answers) (old new : FirstLooksView) (n refused refuses : ℕ) (loo
         ∙ sym (first-suc f q old.seen)
 
   -- An allocation for noting the step failed.
-  left_behind : n ≡ old.seen → ForgetsSeenStep old new → refuses ≡ refused + 1 → Notes f old new n left refused refuses
-  left_behind here behind one = record {
+  left_behind : n ≡ old.seen → ForgetsSeenStep old new → (P → ⊥) → Notes f old new n left P
+  left_behind here behind failed = record {
     noted = erased_known f old new known behind.entries behind.seen;
     looks = λ past. absurd (omega (arith, past, here, behind.seen));
     grows = omega (arith, behind.seen);
     within = inl behind.seen;
-    counted = omega (arith, one);
-    all = λ none _. absurd (omega (arith, none, one));
+    all = λ none _. absurd (failed none);
   }
 
-  pub looks_kept : ((n ≡ old.seen → ⊥) → (new ≡ old) × (refuses ≡ refused) × HasNoQuestions left)
-      → (n ≡ old.seen → (NotesSeenStep old new (looks_from (length looked.cells) after_step) × (refuses ≡ refused) × HasNoQuestions left) ⊎ (ForgetsSeenStep old new × (refuses ≡ refused + 1)))
-      → Notes f old new n left refused refuses
+  pub looks_kept : ((n ≡ old.seen → ⊥) → (new ≡ old) × HasNoQuestions left)
+      → (n ≡ old.seen → (NotesSeenStep old new (looks_from (length looked.cells) after_step) × HasNoQuestions left) ⊎ (ForgetsSeenStep old new × (P → ⊥)))
+      → Notes f old new n left P
   looks_kept other here = by_order (cases_lt n old.seen)
     where
-      at_seen : n ≡ old.seen → (NotesSeenStep old new (looks_from (length looked.cells) after_step) × (refuses ≡ refused) × HasNoQuestions left) ⊎ (ForgetsSeenStep old new × (refuses ≡ refused + 1)) → Notes f old new n left refused refuses
-      at_seen e (inl now) = seen_now e now.0 now.1 now.2
+      at_seen : n ≡ old.seen → (NotesSeenStep old new (looks_from (length looked.cells) after_step) × HasNoQuestions left) ⊎ (ForgetsSeenStep old new × (P → ⊥)) → Notes f old new n left P
+      at_seen e (inl now) = seen_now e now.0 now.1
       at_seen e (inr behind) = left_behind e behind.0 behind.1
 
-      apart : (n ≡ old.seen → ⊥) → (n + 1 ≤ old.seen → AllNoted old after_step) → Notes f old new n left refused refuses
-      apart ne noted_all = let same = other ne in stays same.0 same.1 same.2 ne noted_all
+      apart : (n ≡ old.seen → ⊥) → (n + 1 ≤ old.seen → AllNoted old after_step) → Notes f old new n left P
+      apart ne noted_all = let same = other ne in stays same.0 same.1 ne noted_all
 
-      from_seen : old.seen ≤ n → (old.seen ≡ n) ⊎ (old.seen < n) → Notes f old new n left refused refuses
+      from_seen : old.seen ≤ n → (old.seen ≡ n) ⊎ (old.seen < n) → Notes f old new n left P
       from_seen high (inl e) = at_seen (sym e) (here (sym e))
       from_seen high (inr l) = apart (λ e. omega (arith, e, l)) (λ past. absurd (omega (arith, past, l)))
 
-      by_order : (n < old.seen) ⊎ (old.seen ≤ n) → Notes f old new n left refused refuses
+      by_order : (n < old.seen) ⊎ (old.seen ≤ n) → Notes f old new n left P
       by_order (inl l) = apart (λ e. omega (arith, e, l)) (λ _. seen_before l)
       by_order (inr h) = from_seen h (eq-or-lt_of_le {n = old.seen} {m = n} h)

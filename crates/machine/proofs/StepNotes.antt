@@ -32,10 +32,10 @@ module _ (f : Answers) (t t' : FirstLooksView) (looked asked left : AllLooks) (f
     (asks : AddsLooks looked (looks f at) asked) (extends : KeepsLooks looked asked) (notes : NotesSeenStep (with_seen t at) t' (looks_from (length looked.cells) asked))
     (drained : HasNoQuestions left) (same_cells : left.cells ≡ asked.cells) where
   -- The looks of the last state that asked are noted.
-  last_noted : Notes f (with_seen t at) t' at left 0 0
-  last_noted = looks_kept f (with_seen t at) t' at 0 0 looked asked left
+  last_noted : Notes f (with_seen t at) t' at left (Unit {0})
+  last_noted = looks_kept f (with_seen t at) t' at (Unit {0}) looked asked left
       (passed f t looked old.known old.all at (omega (arith, low, old.seen)) (subst (λ (k : ℕ). LooksAtNothingNew f looked k at) (sym old.seen) quiet))
-      (λ _. old.all) extends asks same_cells (λ ne. absurd (ne refl)) (λ _. inl (notes, refl, drained))
+      (λ _. old.all) extends asks same_cells (λ ne. absurd (ne refl)) (λ _. inl (notes, drained))
 
   noted_on : (n : ℕ) → AreNoted Looks f n t' left
   noted_on n = (last_noted.noted, λ _. last_noted.looks (omega (arith, notes.seen)))

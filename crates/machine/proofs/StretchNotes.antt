@@ -39,30 +39,29 @@ module _ (f : Answers) (t : FirstLooksView) (looked : AllLooks) (known : IsFirst
   pub all_passed : AllNoted (with_seen t upto) looked
   all_passed = all
 
--- The first looks after a stretch from step n to step m.
-pub record NotesStretch (f : Answers) (old new : FirstLooksView) (n m : ℕ) (looked : AllLooks) (refused refuses : ℕ) : Type 0 where
+-- The first looks after a stretch from step n to step m; if P holds, each step so far is noted.
+pub record NotesStretch (f : Answers) (old new : FirstLooksView) (n m : ℕ) (looked : AllLooks) (P : Type 0) : Type 0 where
   pub noted : IsFirstLooks f new
   pub looks : m ≤ new.seen → AllNoted new looked
   pub grows : old.seen ≤ new.seen
   pub within : (new.seen ≡ old.seen) ⊎ (new.seen ≤ m)
-  pub counted : (refused ≤ refuses) × (refuses ≤ refused + 1)
-  pub all : refuses ≡ refused → n ≤ old.seen → m ≤ new.seen
+  pub all : P → n ≤ old.seen → m ≤ new.seen
 
-module _ (s : Session) (end n m : ℕ) (old new : FirstLooksView) (refused refuses : ℕ) (st : PartialState) (looked after_step left : AllLooks) {beneath : List ℕ × List ℕ} (stretch : RunsStretch s n end looked m (Ok None) (record { state = st; looked = after_step; beneath = beneath })) (more : n < m)
+module _ (s : Session) (end n m : ℕ) (old new : FirstLooksView) (P : Type 0) (st : PartialState) (looked after_step left : AllLooks) {beneath : List ℕ × List ℕ} (stretch : RunsStretch s n end looked m (Ok None) (record { state = st; looked = after_step; beneath = beneath })) (more : n < m)
     (known : IsFirstLooks (session_answers s) old) (all : n ≤ old.seen → AllNoted old looked) (seen : n < old.seen → m ≤ old.seen) (same_cells : left.cells ≡ after_step.cells) where
   by_last_step : (t : FirstLooksView) → IsFirstLooks (session_answers s) t → (m - 1 ≤ t.seen → AllNoted t looked)
-      → ((m - 1 ≡ t.seen → ⊥) → (new ≡ t) × (refuses ≡ refused) × HasNoQuestions left)
-      → (m - 1 ≡ t.seen → (NotesSeenStep t new (looks_from (length looked.cells) after_step) × (refuses ≡ refused) × HasNoQuestions left) ⊎ (ForgetsSeenStep t new × (refuses ≡ refused + 1)))
-      → Notes (session_answers s) t new (m - 1) left refused refuses
+      → ((m - 1 ≡ t.seen → ⊥) → (new ≡ t) × HasNoQuestions left)
+      → (m - 1 ≡ t.seen → (NotesSeenStep t new (looks_from (length looked.cells) after_step) × HasNoQuestions left) ⊎ (ForgetsSeenStep t new × (P → ⊥)))
+      → Notes (session_answers s) t new (m - 1) left P
   by_last_step t is_known is_all other here =
-      looks_kept (session_answers s) t new (m - 1) refused refuses looked after_step left is_known is_all stretch.extends (stretch.last more) same_cells other here
+      looks_kept (session_answers s) t new (m - 1) P looked after_step left is_known is_all stretch.extends (stretch.last more) same_cells other here
 
-  pub stretch_kept : ((n ≡ old.seen → ⊥) → (new ≡ old) × (refuses ≡ refused) × HasNoQuestions left)
-      → (n ≡ old.seen → (NotesSeenStep (with_seen old (m - 1)) new (looks_from (length looked.cells) after_step) × (refuses ≡ refused) × HasNoQuestions left) ⊎ (ForgetsSeenStep (with_seen old (m - 1)) new × (refuses ≡ refused + 1)))
-      → NotesStretch (session_answers s) old new n m left refused refuses
+  pub stretch_kept : ((n ≡ old.seen → ⊥) → (new ≡ old) × HasNoQuestions left)
+      → (n ≡ old.seen → (NotesSeenStep (with_seen old (m - 1)) new (looks_from (length looked.cells) after_step) × HasNoQuestions left) ⊎ (ForgetsSeenStep (with_seen old (m - 1)) new × (P → ⊥)))
+      → NotesStretch (session_answers s) old new n m left P
   stretch_kept other here = by_order (cases_lt n old.seen)
     where
-      at_seen : n ≡ old.seen → NotesStretch (session_answers s) old new n m left refused refuses
+      at_seen : n ≡ old.seen → NotesStretch (session_answers s) old new n m left P
       at_seen e =
           let quiet : LooksAtNothingNew (session_answers s) looked old.seen (m - 1) = subst (λ (k : ℕ). LooksAtNothingNew (session_answers s) looked k (m - 1)) e stretch.before_last in
           let notes = by_last_step (with_seen old (m - 1)) (passed (session_answers s) old looked known (all (omega arith)) (m - 1) (omega arith) quiet) (λ _. all (omega arith)) (λ ne. absurd (ne refl)) (λ _. here e) in
@@ -71,11 +70,10 @@ module _ (s : Session) (end n m : ℕ) (old new : FirstLooksView) (refused refus
             looks = λ high. notes.looks (omega arith);
             grows = omega (arith, notes.grows);
             within = elim notes.within [ inl w ↦ inr (omega (arith, w)) | inr w ↦ inr (omega (arith, w)) ];
-            counted = notes.counted;
             all = λ none _. omega (arith, notes.all none (omega arith));
           }
 
-      apart : (n ≡ old.seen → ⊥) → (m - 1 ≡ old.seen → ⊥) → NotesStretch (session_answers s) old new n m left refused refuses
+      apart : (n ≡ old.seen → ⊥) → (m - 1 ≡ old.seen → ⊥) → NotesStretch (session_answers s) old new n m left P
       apart ne last =
           let notes = by_last_step old known (λ low. all (omega arith)) (λ _. other ne) (λ e. absurd (last e)) in
           record {
@@ -83,14 +81,13 @@ module _ (s : Session) (end n m : ℕ) (old new : FirstLooksView) (refused refus
             looks = λ high. notes.looks (omega arith);
             grows = notes.grows;
             within = elim notes.within [ inl w ↦ inl w | inr w ↦ inr (omega (arith, w)) ];
-            counted = notes.counted;
             all = λ none low. elim (eq-or-lt_of_le {n = n} {m = old.seen} low) [ inl same ↦ absurd (ne same) | inr l ↦ let top : m ≤ old.seen = seen l in omega (arith, top, notes.grows) ];
           }
 
-      from_seen : (old.seen ≡ n) ⊎ (old.seen < n) → NotesStretch (session_answers s) old new n m left refused refuses
+      from_seen : (old.seen ≡ n) ⊎ (old.seen < n) → NotesStretch (session_answers s) old new n m left P
       from_seen (inl e) = at_seen (sym e)
       from_seen (inr l) = apart (λ e. omega (arith, e, l)) (λ e. omega (arith, e, l, more))
 
-      by_order : (n < old.seen) ⊎ (old.seen ≤ n) → NotesStretch (session_answers s) old new n m left refused refuses
+      by_order : (n < old.seen) ⊎ (old.seen ≤ n) → NotesStretch (session_answers s) old new n m left P
       by_order (inl l) = let top : m ≤ old.seen = seen l in apart (λ e. omega (arith, e, l)) (λ e. omega (arith, e, top, more))
       by_order (inr h) = from_seen (eq-or-lt_of_le {n = old.seen} {m = n} h)

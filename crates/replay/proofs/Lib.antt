@@ -8,7 +8,6 @@ pub mod SpliceLemmas
 pub mod RunnerLemmas
 pub mod OutcomeLemmas
 pub mod ValidLemmas
+pub mod DueLemmas
 pub mod StepsLemmas
-pub mod CompleteLemmas
-pub mod FailureCounts
 pub mod FileTouch

@@ -1,12 +1,11 @@
 -- Checkpoints that are kept, made and dropped.
-use Rattle.std.proofs.Common.{◌≡◌, ℕ, zero, suc, ◌-◌, ◌<◌, ◌≤◌, ◌%◌, List, [], ◌∷◌, ◌++◌, length, max, drop, take, Some, None, ◌⊎◌, inl, inr, refl, ap, sym, ◌∙◌, arith, length-append, length-drop, append_assoc}
+use Rattle.std.proofs.Common.{◌≡◌, ℕ, zero, suc, ◌-◌, ◌<◌, ◌≤◌, List, [], ◌∷◌, ◌++◌, length, drop, take, Some, None, ◌⊎◌, inl, inr, refl, ap, ◌∙◌, arith, length-append, length-drop, append_assoc}
 use Rattle.std.specs.Prelude.{slice_get, Result, Ok, Err, OnErr}
-use Rattle.std.proofs.lemmas.Bool.{cases_lt}
-use Rattle.std.proofs.lemmas.List.{drop-append-le, drop-drop, append-nil}
+use Rattle.std.proofs.lemmas.List.{drop-append-le, drop-drop}
 use Rattle.circular_buffer.specs.Buffer.{Buffer, keep_last, last_item}
 use Rattle.first_looks.proofs.OrderLemmas.{taken_last}
 use Rattle.replay.specs.declared.ring.Checkpoint.{Checkpoint}
-use Rattle.replay.specs.Ring.{Each, Rising, IsDue, Adds, PushesIfAbove, SomeStep, DropsPast}
+use Rattle.replay.specs.Ring.{Each, Rising, PushesIfAbove, SomeStep, DropsPast}
 
 pub on_err : {T E : Type 0} (r : Result T E) (P : Type 0) → P → OnErr r P
 on_err (Ok x) P p = tt
@@ -52,22 +51,9 @@ pub Rising-push : (xs : List Checkpoint) (c : Checkpoint) → Rising xs → Each
 Rising-push [] c r b = (tt, tt)
 Rising-push (x ∷ xs) c r b = (Each-append _ xs (c ∷ []) r.0 (b.0, tt), Rising-push xs c r.1 b.1)
 
-below_all : (x : Checkpoint) (xs ys : List Checkpoint) → Each (λ d. Each (λ c. c.step < d.step) (x ∷ xs)) ys → Each (λ d. x.step < d.step) ys
-below_all x xs [] h = tt
-below_all x xs (y ∷ ys) h = (h.0.0, below_all x xs ys h.1)
-
-below_rest : (x : Checkpoint) (xs ys : List Checkpoint) → Each (λ d. Each (λ c. c.step < d.step) (x ∷ xs)) ys → Each (λ d. Each (λ c. c.step < d.step) xs) ys
-below_rest x xs [] h = tt
-below_rest x xs (y ∷ ys) h = (h.0.1, below_rest x xs ys h.1)
-
 pub Rising-left : (xs ys : List Checkpoint) → Rising (xs ++ ys) → Rising xs
 Rising-left [] ys r = tt
 Rising-left (x ∷ xs) ys r = (Each-left _ xs ys r.0, Rising-left xs ys r.1)
-
-pub Rising-append : (xs ys : List Checkpoint) → Rising xs → Rising ys → Each (λ d. Each (λ c. c.step < d.step) xs) ys → Rising (xs ++ ys)
-Rising-append [] ys r s b = s
-Rising-append (x ∷ xs) ys r s b =
-    (Each-append _ xs ys r.0 (below_all x xs ys b), Rising-append xs ys r.1 s (below_rest x xs ys b))
 
 pub Rising-drop : (n : ℕ) (xs : List Checkpoint) → Rising xs → Rising (drop n xs)
 Rising-drop zero xs r = r
@@ -97,83 +83,6 @@ none_last P (x ∷ xs) e =
     let one : suc (length xs) - 1 ≡ length xs = omega arith in
     absurd (none_there x xs (rw one at e))
 
--- What was added in the middle of a run, whose newest checkpoint is at `newest`.
-pub record Adding (old new : List Checkpoint) (slots from upto last spacing newest : ℕ) : Type 0 where
-  pub adds : Adds old new slots from upto last spacing
-  pub old_below : Each (λ c. c.step ≤ newest) old
-  pub made_below : Each (λ c. c.step ≤ newest) adds.made
-  pub start_below : from ≤ newest
-
--- A due step stays due if the run goes further.
-pub widen : (old new : List Checkpoint) (slots from upto further last spacing : ℕ) → upto ≤ further → Adds old new slots from upto last spacing → Adds old new slots from further last spacing
-widen old new slots from upto further last spacing up a = record {
-  made = a.made;
-  kept = a.kept;
-  due = Each-weaken _ _ a.made (λ d h. record { reached = (h.reached.0, omega (arith, h.reached.1)); above = h.above; marked = h.marked }) a.due;
-  rising = a.rising;
-}
-
-pub widen_to : (old new : List Checkpoint) (slots from upto last limit spacing : ℕ) → upto ≤ last → last ≡ limit → Adds old new slots from upto last spacing → Adds old new slots from limit limit spacing
-widen_to old new slots from upto last limit spacing up e a = rw (← e) (widen old new slots from upto last last spacing up a)
-
-pub due_relast : (old : List Checkpoint) (from upto last other spacing step : ℕ) → upto < last → IsDue old from upto last spacing step → (step % spacing ≡ 0) ⊎ (step ≡ last) → IsDue old from upto other spacing step
-due_relast old from upto last other spacing step below h (inl m) = record { reached = h.reached; above = h.above; marked = inl m }
-due_relast old from upto last other spacing step below h (inr e) = absurd (omega (arith, h.reached.1))
-
--- No step below the limit was made because it is the limit.
-unfoldable pub relast_adding : (old new : List Checkpoint) (slots from upto last other spacing newest : ℕ) → upto < last → Adding old new slots from upto last spacing newest → Adding old new slots from upto other spacing newest
-relast_adding old new slots from upto last other spacing newest below g = record {
-  adds = record {
-    made = g.adds.made;
-    kept = g.adds.kept;
-    due = Each-weaken _ _ g.adds.made (λ d h. due_relast old from upto last other spacing d.step below h h.marked) g.adds.due;
-    rising = g.adds.rising;
-  };
-  old_below = g.old_below;
-  made_below = g.made_below;
-  start_below = g.start_below;
-}
-
-module _ (old : List Checkpoint) (from last spacing newest upto : ℕ) (ring : Buffer Checkpoint) (c : Checkpoint) where
-  -- One more checkpoint, above all others.
-  unfoldable pub push_made : (slots : ℕ) → Adding old ring.items slots from upto last spacing newest → upto ≤ c.step → newest < c.step → (c.step % spacing ≡ 0) ⊎ (c.step ≡ last)
-      → Adding old (keep_last slots (ring.items ++ c ∷ [])) slots from c.step last spacing (max newest c.step)
-  push_made slots g up above mark =
-      let made = g.adds.made in
-      let start : from < c.step = omega (arith, g.start_below) in
-      let due : IsDue old from c.step last spacing c.step = record { reached = (start, omega arith); above = Each-weaken _ _ old (λ d h. omega (arith, h)) g.old_below; marked = mark } in
-      let wide : Each (λ d. IsDue old from c.step last spacing d.step) made =
-      Each-weaken _ _ made (λ d h. record { reached = (h.reached.0, omega (arith, h.reached.1)); above = h.above; marked = h.marked }) g.adds.due in
-      record {
-        adds = record {
-          made = made ++ c ∷ [];
-          kept = ap (λ (xs : List Checkpoint). keep_last slots (xs ++ c ∷ [])) g.adds.kept ∙ keep_last-keep_last slots (old ++ made) (c ∷ []) ∙ ap (λ (xs : List Checkpoint). keep_last slots xs) (append_assoc old made (c ∷ []));
-          due = Each-append _ made (c ∷ []) wide (due, tt);
-          rising = Rising-push made c g.adds.rising (Each-weaken _ _ made (λ d h. omega (arith, h)) g.made_below);
-        };
-        old_below = Each-weaken _ _ old (λ d h. omega (arith, h)) g.old_below;
-        made_below = Each-append _ made (c ∷ []) (Each-weaken _ _ made (λ d h. omega (arith, h)) g.made_below) (omega arith, tt);
-        start_below = omega (arith, g.start_below);
-      }
-
-  unfoldable pub left_out : (slots : ℕ) → Adding old ring.items slots from upto last spacing newest → upto ≤ c.step → Adding old ring.items slots from c.step last spacing (max newest c.step)
-  left_out slots g up = record {
-    adds = record {
-      made = g.adds.made;
-      kept = g.adds.kept;
-      due = Each-weaken _ _ g.adds.made (λ d h. record { reached = (h.reached.0, omega (arith, h.reached.1)); above = h.above; marked = h.marked }) g.adds.due;
-      rising = g.adds.rising;
-    };
-    old_below = Each-weaken _ _ old (λ d h. omega (arith, h)) g.old_below;
-    made_below = Each-weaken _ _ g.adds.made (λ d h. omega (arith, h)) g.made_below;
-    start_below = omega (arith, g.start_below);
-  }
-
-  pub kept_adds : (next : Buffer Checkpoint) (slots : ℕ) → ring.capacity ≡ slots → Adding old ring.items slots from upto last spacing newest → upto ≤ c.step → (c.step % spacing ≡ 0) ⊎ (c.step ≡ last)
-      → PushesIfAbove newest ring next c → Adding old next.items slots from c.step last spacing (max newest c.step)
-  kept_adds next slots room g up mark (inl e) = rw e (left_out slots g up)
-  kept_adds next slots room g up mark (inr k) = rw (k.1, room) (push_made slots g up k.0 mark)
-
 module _ (newest : ℕ) (ring : Buffer Checkpoint) (c : Checkpoint) where
   pub kept_capacity : (next : Buffer Checkpoint) → PushesIfAbove newest ring next c → next.capacity ≡ ring.capacity
   kept_capacity next (inl e) = rw e refl
@@ -183,13 +92,9 @@ module _ (newest : ℕ) (ring : Buffer Checkpoint) (c : Checkpoint) where
   kept_each P next (inl e) h here = rw e h
   kept_each P next (inr k) h here = rw k.1 (Each-keep_last P ring.capacity (ring.items ++ c ∷ []) (Each-append P ring.items (c ∷ []) h (here k.0, tt)))
 
-  -- No checkpoint is past the step `seen`.
-  pub kept_known : (seen : ℕ) (next : Buffer Checkpoint) → PushesIfAbove newest ring next c → (seen < c.step → next ≡ ring) → Each (λ d. d.step ≤ seen) ring.items → Each (λ d. d.step ≤ seen) next.items
-  kept_known seen next keeps past low = by_order (cases_lt seen c.step)
-    where
-      by_order : (seen < c.step) ⊎ (c.step ≤ seen) → Each (λ d. d.step ≤ seen) next.items
-      by_order (inl l) = rw (past l) low
-      by_order (inr h) = kept_each (λ d. d.step ≤ seen) next keeps low (λ _. h)
+  pub kept_rising : (next : Buffer Checkpoint) → PushesIfAbove newest ring next c → Rising ring.items → Each (λ d. d.step ≤ newest) ring.items → Rising next.items
+  kept_rising next (inl e) rising top = rw e rising
+  kept_rising next (inr k) rising top = rw k.1 (Rising-drop (length (ring.items ++ c ∷ []) - ring.capacity) (ring.items ++ c ∷ []) (Rising-push ring.items c rising (Each-weaken _ _ ring.items (λ d h. omega (arith, h, k.0)) top)))
 
 -- No checkpoint is made below the newest.
 pub kept_same : (newest : ℕ) (ring next : Buffer Checkpoint) (c : Checkpoint) → PushesIfAbove newest ring next c → c.step ≤ newest → next ≡ ring
@@ -206,20 +111,6 @@ pub begins_below : (from newest : ℕ) (xs : List Checkpoint) → (from ≡ 0) �
 begins_below from newest xs (inl e) b = omega arith
 begins_below from newest xs (inr h) b = some_below from newest xs h b
 
--- Nothing is added.
-pub none_added : (old : List Checkpoint) (slots from upto last spacing : ℕ) → length old ≤ slots → Adds old old slots from upto last spacing
-none_added old slots from upto last spacing short = record { made = []; kept = rw append-nil (sym (keep_last-all slots old short)); due = tt; rising = tt }
-
--- A run begins with nothing added.
-pub none_made : (old : List Checkpoint) (slots from last spacing newest : ℕ) → length old ≤ slots → Each (λ c. c.step ≤ newest) old → (from ≡ 0) ⊎ SomeStep old from → Adding old old slots from from last spacing newest
-unfolding none_added
-none_made old slots from last spacing newest short below start = record {
-  adds = none_added old slots from from last spacing short;
-  old_below = below;
-  made_below = tt;
-  start_below = begins_below from newest old start below;
-}
-
 pub popped : (old new gone : List Checkpoint) (c : Checkpoint) (touch : ℕ) → last_item old ≡ Some c → new ≡ take (length old - 1) old → touch < c.step → Each (λ d. touch < d.step) gone
     → Rising old → (old ++ gone ≡ new ++ (c ∷ gone)) × Rising new
 popped old new gone c touch last e past h rising =
@@ -229,7 +120,3 @@ popped old new gone c touch last e past h rising =
 pub kept_up_to : (old now gone : List Checkpoint) (c : Checkpoint) (touch : ℕ) → old ≡ now ++ gone → Rising now → last_item now ≡ Some c → c.step ≤ touch → Each (λ d. touch < d.step) gone → DropsPast touch old now
 kept_up_to old now gone c touch parts rising last low past =
     record { gone = gone; parts = parts; left = Each-weaken _ _ now (λ d h. omega (arith, h)) (last_greatest now c rising last); past = past }
-
-pub adds_rising : (old new : List Checkpoint) (slots from upto last spacing : ℕ) → Rising old → Adds old new slots from upto last spacing → Rising new
-adds_rising old new slots from upto last spacing r a =
-    rw a.kept (Rising-drop (length (old ++ a.made) - slots) (old ++ a.made) (Rising-append old a.made r a.rising (Each-weaken _ _ a.made (λ d h. h.above) a.due)))

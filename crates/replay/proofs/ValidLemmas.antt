@@ -1,8 +1,12 @@
 -- What is kept of a state that a run reached, and the text that belongs to it.
-use Rattle.std.proofs.Common.{◌≡◌, ℕ, ◌<◌, ◌≤◌, Bool, true, false, List, [], ◌∷◌, length, take, Some, ◌⊎◌, inl, inr, refl, ap, sym, ◌∙◌, arith, cond, nat_lt}
+use Rattle.std.proofs.Common.{◌≡◌, ℕ, ◌<◌, ◌≤◌, Bool, true, false, List, [], ◌∷◌, length, take, max, Option, Some, ◌⊎◌, inl, inr, refl, ap, sym, ◌∙◌, arith, cond, nat_lt}
+use Rattle.std.specs.Prelude.{IsErr, IsOk, Result, Ok, Err}
+use Rattle.std.specs.declared.alloc.AllocError.{AllocError}
 use Rattle.std.proofs.lemmas.Bool.Decides.{nat_tests}
 use Rattle.circular_buffer.specs.Buffer.{Buffer}
 use Rattle.std.proofs.lemmas.List.{take_all, length-take-le, take-take}
+use Rattle.machine.specs.declared.session.TheConstants.{STEP_LIMIT}
+use Rattle.machine.specs.FirstLooks.{IsFirstLooks}
 use Rattle.machine.specs.StateView.{PartialState}
 use Rattle.machine.specs.Machine.{Answers, after}
 use Rattle.machine.specs.SavedState.{state_with_text, saved_state_of}
@@ -10,10 +14,44 @@ use Rattle.machine.proofs.TextLemmas.{text_begins, text_length}
 use Rattle.replay.specs.declared.ring.Checkpoint.{Checkpoint}
 use Rattle.replay.specs.declared.rerun.TextUse.{TextUse}
 use Rattle.replay.specs.declared.rerun.TextUse.TheVariants.{Copy, Move}
-use Rattle.replay.specs.Ring.{Each, IsValid, IsValidFor, SomeStep, start_step}
+use Rattle.replay.specs.declared.ring.Checkpoints.{Checkpoints}
+use Rattle.replay.specs.declared.ring.LeftOut.{LeftOut}
+use Rattle.replay.specs.declared.ring.RunNotes.{RunNotes}
+use Rattle.replay.specs.Resuming.{AreCheckpointsOf}
+use Rattle.replay.specs.Ring.{Each, IsValid, IsValidFor, PushesIfAbove, SomeStep, checkpoint_at, start_step}
+use Rattle.replay.proofs.RingLemmas.{Each-weaken, kept_each, kept_rising}
 
 pub new_valid : (f : Answers) (n : ℕ) (st : PartialState) → 1 ≤ n → after f n ≡ Some st → IsValid f (record { step = n; state = saved_state_of st })
 new_valid f n st later at = record { later = later; text = st.core.desk.text; fits = refl; state = at }
+
+-- The looks of more steps are noted.
+pub noted_on : (f : Answers) (old : Checkpoints) (notes : RunNotes) → AreCheckpointsOf f old → IsFirstLooks f notes.looks
+    → (old.notes.looks.seen ≤ notes.looks.seen) × (notes.looks.seen ≤ STEP_LIMIT) → AreCheckpointsOf f (record old { notes = notes })
+noted_on f old notes sound first seen = record {
+  valid = sound.valid;
+  rising = sound.rising;
+  below = Each-weaken _ _ old.ring.items (λ d h. omega (arith, h, seen.0)) sound.below;
+  noted = first;
+  spacing_in = sound.spacing_in;
+  seen_in = seen.1;
+}
+
+-- A checkpoint was made, or not.
+pub pushed_sound : (f : Answers) (old : Checkpoints) (ring : Buffer Checkpoint) (left : Option LeftOut) (newest n : ℕ) (st : PartialState) → AreCheckpointsOf f old → after f n ≡ Some st
+    → PushesIfAbove newest old.ring ring (checkpoint_at n st) → (IsErr old.notes.noted → ring ≡ old.ring) → (IsOk old.notes.noted → n ≤ old.notes.looks.seen) → Each (λ c. c.step ≤ newest) old.ring.items
+    → AreCheckpointsOf f (record old { ring = ring; left_out = left })
+pushed_sound f old ring left newest n st sound at keeps none noted top = record {
+  valid = kept_each newest old.ring (checkpoint_at n st) (IsValid f) ring keeps sound.valid (λ h. new_valid f n st (omega (arith, h)) at);
+  rising = kept_rising newest old.ring (checkpoint_at n st) ring keeps sound.rising top;
+  below = by_notes old.notes.noted none noted;
+  noted = sound.noted;
+  spacing_in = sound.spacing_in;
+  seen_in = sound.seen_in;
+}
+  where
+    by_notes : (r : Result (Unit {0}) AllocError) → (IsErr r → ring ≡ old.ring) → (IsOk r → n ≤ old.notes.looks.seen) → Each (λ c. c.step ≤ old.notes.looks.seen) ring.items
+    by_notes (Ok u) none noted = kept_each newest old.ring (checkpoint_at n st) (λ c. c.step ≤ old.notes.looks.seen) ring keeps sound.below (λ _. noted refl)
+    by_notes (Err e) none noted = rw (none refl) sound.below
 
 pub stands_valid : (f : Answers) (text : List ℕ) (xs : List Checkpoint) → Each (IsValidFor f text) xs → Each (IsValid f) xs
 stands_valid f text [] h = tt
@@ -79,22 +117,22 @@ module _ (f : Answers) (limit newest from l : ℕ) (st : PartialState) (old new 
   newest_within (inr h) low = some_within limit old.items newest h low
 
   pub left : Each (IsValidFor f first) old.items → (newest ≡ 0) ⊎ SomeStep old.items newest → l ≡ limit → from ≡ start_step limit old.items
-      → ((n : ℕ) × (after f n ≡ Some st) × (n ≤ limit) × (newest ≤ from → Each (λ c. c.step ≤ n) new.items))
+      → (n : ℕ) → after f n ≡ Some st → (from ≤ n) × (n ≤ limit) → Each (λ c. c.step ≤ max newest n) new.items
       → (limit < newest → new ≡ old) → Each (IsValid f) new.items
       → (chosen : TextUse) → chosen ≡ cond (nat_lt l newest) Copy Move
       → (chosen ≡ Copy → begun ≡ first) → (chosen ≡ Move → last ≡ st.core.desk.text) → (chosen ≡ Copy → last ≡ begun)
       → Left f st last new.items
-  left stands there is start at same valid chosen is_chosen needed own stays = by_need (nat_lt l newest) refl is_chosen
+  left stands there is start n at within top same valid chosen is_chosen needed own stays = by_need (nat_lt l newest) refl is_chosen
     where
       by_need : (b : Bool) → nat_lt l newest ≡ b → chosen ≡ cond b Copy Move → Left f st last new.items
       by_need true e copied =
           let past : limit < newest = grind (arith, nat_tests) in
-          rw (stays copied ∙ needed copied, same past) (left_before stands there at.0 at.1 at.2 past)
+          rw (stays copied ∙ needed copied, same past) (left_before stands there n at within.1 past)
       by_need false e moved =
           let low : newest ≤ limit = grind (arith, nat_tests) in
           let reached : newest ≤ from = omega (arith, newest_within there low) in
           rw (own moved) (record {
-            stands = all_later_stand f at.0 st new.items at.1 (at.3 reached) valid;
+            stands = all_later_stand f n st new.items at (Each-weaken _ _ new.items (λ d h. omega (arith, h, reached, within.0)) top) valid;
             begins = take_all (length st.core.desk.text) st.core.desk.text (omega arith);
             fits = omega arith;
           })

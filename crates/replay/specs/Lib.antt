@@ -4,7 +4,6 @@ pub mod Edits
 pub mod EditAnswers
 pub mod Change
 pub mod Ring
-pub mod AllocFailures
 pub mod Touch
 pub mod PrefixDependence
 pub mod Resuming

@@ -1,29 +1,13 @@
 -- How a run resumes from a kept step, and how it leaves the checkpoints. (This project's own.)
-use Rattle.std.specs.Prelude.{◌≡◌, ℕ, ◌+◌, ◌≤◌, ◌⊎◌, Result, Some, MatchResult, Option, length}
-use Rattle.machine.specs.Cause.{Cause}
+use Rattle.std.specs.Prelude.{◌≡◌, ℕ, ◌≤◌, ◌⊎◌, Some, Option, length}
+use Rattle.std.specs.Option.{option_map}
 use Rattle.machine.specs.Inputs.{Session}
 use Rattle.machine.specs.StateView.{StateView}
 use Rattle.machine.specs.Machine.{Answers, session_answers, after}
-use Rattle.replay.specs.declared.run_notes.RunNotes.{RunNotes}
 use Rattle.replay.specs.declared.ring.Checkpoints.{Checkpoints}
 use Rattle.machine.specs.FirstLooks.{AllNoted}
 use Rattle.replay.specs.RunnerView.{AreCheckpoints}
-use Rattle.replay.specs.AllocFailures.{CountsThisRun, FailsLooksOnce}
-use Rattle.replay.specs.Ring.{IsValid, SomeStep, Adds, AddsAll, start_step}
-
--- The count does not fall, and grows by no more than the steps. If it stays, the first looks reach the step.
-pub record LooksReach (old : RunNotes) (from : ℕ) (new : RunNotes) (step : ℕ) : Type 0 where
-  pub grows : old.alloc_failures ≤ new.alloc_failures
-  pub few : new.alloc_failures + from ≤ old.alloc_failures + step
-  pub all : from ≤ old.looks.seen → new.alloc_failures ≡ old.alloc_failures → step ≤ new.looks.seen
-
--- On the way from one step to another, an allocation for first looks failed at most once; if none did, they reach as far as the
--- run.
-abbrev pub CountsLooks : {E : Type 0} → RunNotes → ℕ → RunNotes → Result (ℕ × Option Cause) E → Type 0
-CountsLooks old from new result =
-    MatchResult result
-    (λ r. FailsLooksOnce old.looks.seen from old.alloc_failures new.looks.seen r.0 new.alloc_failures × LooksReach old from new r.0)
-    (λ _. (old.alloc_failures ≤ new.alloc_failures) × (new.alloc_failures ≤ old.alloc_failures + 1))
+use Rattle.replay.specs.Ring.{IsValid, SomeStep, Adds, AddsEach, start_step}
 
 -- The step from which a rerun of a session begins.
 abbrev pub resume_step : Session → Checkpoints → ℕ
@@ -43,20 +27,14 @@ pub record IsResumePoint (s : Session) (checkpoints : Checkpoints) (from : ℕ) 
 abbrev pub AreCheckpointsOf : Answers → Checkpoints → Type 0
 AreCheckpointsOf f checkpoints = AreCheckpoints (IsValid f) f checkpoints
 
--- A run that went from one step to another, or was to reach it, added checkpoints at due steps alone, and counted its failed allocations.
-pub record AddsDue (old new : Checkpoints) (from upto : ℕ) : Type 0 where
-  pub adds : Adds old.ring.items new.ring.items old.ring.capacity from upto upto old.spacing
-  pub counted : CountsThisRun from upto old.spacing new.notes.alloc_failures
-  pub capacity : new.ring.capacity ≡ old.ring.capacity
-  pub spacing : new.spacing ≡ old.spacing
+-- The last due step at which a checkpoint was left out.
+abbrev pub left_out_step : Checkpoints → Option ℕ
+left_out_step checkpoints = option_map (λ l. l.step) checkpoints.left_out
 
--- If no allocation failed, no due step was left out.
-abbrev pub AddsEach : Checkpoints → Checkpoints → ℕ → ℕ → Type 0
-AddsEach old new from upto =
-    new.notes.alloc_failures ≡ 0 → AddsAll old.ring.items new.ring.items old.ring.capacity from upto upto old.spacing
+-- A run from one step, which was to reach another, added checkpoints at due steps alone.
+abbrev pub AddsDue : Checkpoints → Checkpoints → ℕ → ℕ → Type 0
+AddsDue old new from upto = Adds old.ring.items new.ring.items old.ring.capacity from upto upto old.spacing (left_out_step new)
 
--- What a run added, by its result: checkpoints at due steps up to the step that it reached, all of them if no allocation failed;
--- at `Err`, at due steps up to the limit.
-abbrev pub AddsWhileResumed : {E : Type 0} → Checkpoints → Checkpoints → ℕ → ℕ → Result (ℕ × Cause) E → Type 0
-AddsWhileResumed old new from limit result =
-    MatchResult result (λ r. AddsDue old new from r.0 × AddsEach old new from r.0) (λ _. AddsDue old new from limit)
+-- A run from one step, which reached another, added one at each due step after the last one that it left out.
+abbrev pub AddsEachDue : Checkpoints → Checkpoints → ℕ → ℕ → Type 0
+AddsEachDue old new from steps = AddsEach old.ring.items new.ring.items old.ring.capacity from steps steps old.spacing (left_out_step new)

@@ -1,5 +1,5 @@
 -- Checkpoints: which are valid, and which a rerun may add. (This project's own.)
-use Rattle.std.specs.Prelude.{◌≡◌, ℕ, ◌<◌, ◌≤◌, ◌%◌, List, [], ◌∷◌, ◌++◌, Some, ◌⊎◌, max, nat_le, if◌then◌else◌, length, take, map}
+use Rattle.std.specs.Prelude.{◌≡◌, ℕ, ◌<◌, ◌≤◌, ◌%◌, List, [], ◌∷◌, ◌++◌, Option, Some, IfSome, ◌⊎◌, max, nat_le, if◌then◌else◌, length, take, map}
 use Rattle.circular_buffer.specs.Buffer.{Buffer, buffer, keep_last}
 use Rattle.machine.specs.Machine.{Answers, after}
 use Rattle.machine.specs.StateView.{PartialState}
@@ -41,22 +41,24 @@ module _ {X : Type 0} (at : X → ℕ) where
     pub above : Each (λ x. at x < step) kept
     pub marked : (step % spacing ≡ 0) ⊎ (step ≡ last)
 
-  -- The new list is the last `slots` items of the old one followed by some rising list of due steps.
-  pub record AddsBy (old new : List X) (slots from upto last spacing : ℕ) : Type 0 where
+  -- The new list is the last `slots` items of the old one followed by some rising list of due steps. So is the last one that was left
+  -- out, if there is one.
+  pub record AddsBy (old new : List X) (slots from upto last spacing : ℕ) (left_out : Option ℕ) : Type 0 where
     pub made : List X
     pub kept : new ≡ keep_last slots (old ++ made)
     pub due : Each (λ x. IsDueBy old from upto last spacing (at x)) made
     pub rising : RisingBy made
+    pub left : IfSome left_out (IsDueBy old from upto last spacing)
 
   -- Some item is at this step.
   abbrev pub SomeBy : List X → ℕ → Type 0
   SomeBy [] n = ⊥
   SomeBy (x ∷ xs) n = (at x ≡ n) ⊎ SomeBy xs n
 
-  -- The same, and no due step was left out.
-  pub record AddsAllBy (old new : List X) (slots from upto last spacing : ℕ) : Type 0 where
-    pub adds : AddsBy old new slots from upto last spacing
-    pub complete : (k : ℕ) → IsDueBy old from upto last spacing k → SomeBy adds.made k
+  -- The same, and each due step after the last one that was left out is there.
+  pub record AddsEachBy (old new : List X) (slots from upto last spacing : ℕ) (left_out : Option ℕ) : Type 0 where
+    pub adds : AddsBy old new slots from upto last spacing left_out
+    pub complete : (k : ℕ) → IsDueBy old from upto last spacing k → IfSome left_out (λ n. n < k) → SomeBy adds.made k
 
   -- The greatest of the steps that is not past the limit, or else 0.
   abbrev pub start_by : ℕ → List X → ℕ
@@ -70,11 +72,11 @@ Rising = RisingBy (λ c. c.step)
 abbrev pub IsDue : List Checkpoint → ℕ → ℕ → ℕ → ℕ → ℕ → Type 0
 IsDue = IsDueBy (λ c. c.step)
 
-abbrev pub Adds : List Checkpoint → List Checkpoint → ℕ → ℕ → ℕ → ℕ → ℕ → Type 0
+abbrev pub Adds : List Checkpoint → List Checkpoint → ℕ → ℕ → ℕ → ℕ → ℕ → Option ℕ → Type 0
 Adds = AddsBy (λ c. c.step)
 
-abbrev pub AddsAll : List Checkpoint → List Checkpoint → ℕ → ℕ → ℕ → ℕ → ℕ → Type 0
-AddsAll = AddsAllBy (λ c. c.step)
+abbrev pub AddsEach : List Checkpoint → List Checkpoint → ℕ → ℕ → ℕ → ℕ → ℕ → Option ℕ → Type 0
+AddsEach = AddsEachBy (λ c. c.step)
 
 abbrev pub start_step : ℕ → List Checkpoint → ℕ
 start_step = start_by (λ c. c.step)

@@ -1,5 +1,5 @@
 -- A runner as contracts see it. (This project's own.)
-use Rattle.std.specs.Prelude.{◌≡◌, ℕ, ◌+◌, ◌<◌, ◌≤◌, List, [], ◌++◌, Some, drop, map, take}
+use Rattle.std.specs.Prelude.{◌≡◌, ℕ, ◌+◌, ◌<◌, ◌≤◌, List, [], ◌++◌, Option, Some, None, drop, map, take}
 use Rattle.machine.specs.declared.session.TheConstants.{STEP_LIMIT}
 use Rattle.machine.specs.Inputs.{Session}
 use Rattle.machine.specs.StateView.{PartialState}
@@ -9,8 +9,7 @@ use Rattle.replay.specs.declared.ring.Checkpoint.{Checkpoint as KeptCheckpoint}
 use Rattle.replay.specs.declared.ring.Checkpoints.{Checkpoints}
 use Rattle.replay.specs.declared.options.Options.{Options}
 use Rattle.machine.specs.FirstLooks.{IsFirstLooks}
-use Rattle.replay.specs.AllocFailures.{CountsThisRun}
-use Rattle.replay.specs.Ring.{Each, Rising, RisingBy, IsValidFor, AddsBy, AddsAllBy, start_by}
+use Rattle.replay.specs.Ring.{Each, Rising, RisingBy, IsValidFor, AddsBy, AddsEachBy, start_by}
 use Rattle.replay.specs.Touch.{Untouched}
 
 -- A step that a run reached, and the state there.
@@ -18,18 +17,17 @@ pub record Checkpoint : Type 0 where
   pub step : ℕ
   pub state : PartialState
 
--- A session, options, checkpoints, the oldest first, and how many allocations for a checkpoint, or for the notes that it needs,
--- failed in the last rerun.
+-- A session, options, checkpoints, the oldest first, and the last due step of the last rerun at which a checkpoint was left out.
 pub record RunnerView : Type 0 where
   pub session : Session
   pub spacing : ℕ
   pub slots : ℕ
   pub checkpoints : List Checkpoint
-  pub alloc_failures : ℕ
+  pub left_out : Option ℕ
 
 -- A runner for a session, with no checkpoint yet.
 abbrev pub with_no_checkpoint : Session → Options → RunnerView
-with_no_checkpoint s options = record { session = s; spacing = options.spacing; slots = options.slots; checkpoints = []; alloc_failures = 0 }
+with_no_checkpoint s options = record { session = s; spacing = options.spacing; slots = options.slots; checkpoints = []; left_out = None }
 
 -- The options stay the same.
 pub record SameOptions (old new : RunnerView) : Type 0 where
@@ -67,25 +65,18 @@ DropsOldest count old new = new ≡ record old { checkpoints = drop count old.ch
 abbrev pub rerun_start : RunnerView → ℕ
 rerun_start r = start_by (λ c. c.step) r.session.limit r.checkpoints
 
--- The checkpoints after a rerun that reached this step, or was to reach it: the new steps are the last of the old ones followed
--- by some due steps, and they rise.
+-- The checkpoints after a rerun that was to reach this step: the new steps are the last of the old ones followed by some due steps,
+-- and they rise.
 abbrev pub AddsDueTo : RunnerView → RunnerView → ℕ → Type 0
 AddsDueTo old new upto =
-    AddsBy (λ k. k) (kept_steps old) (kept_steps new) old.slots (rerun_start old) upto upto old.spacing
+    AddsBy (λ k. k) (kept_steps old) (kept_steps new) old.slots (rerun_start old) upto upto old.spacing new.left_out
     × RisingBy (λ k. k) (kept_steps new)
 
--- If no allocation failed, no due step was left out.
-abbrev pub AddsAllDueTo : RunnerView → RunnerView → ℕ → Type 0
-AddsAllDueTo old new upto =
-    new.alloc_failures ≡ 0 → AddsAllBy (λ k. k) (kept_steps old) (kept_steps new) old.slots (rerun_start old) upto upto old.spacing
-
--- The count of failed allocations is for a rerun, alone, that reached this step, or was to reach it.
-abbrev pub RestartsCount : RunnerView → RunnerView → ℕ → Type 0
-RestartsCount old new upto = CountsThisRun (rerun_start old) upto old.spacing new.alloc_failures
-
--- What a rerun that reached this step leaves.
-abbrev pub RerunsTo : RunnerView → RunnerView → ℕ → Type 0
-RerunsTo old new steps = AddsDueTo old new steps × AddsAllDueTo old new steps × RestartsCount old new steps
+-- The same after a rerun that reached this step, and each due step after the last one that was left out is there.
+abbrev pub AddsEachDueTo : RunnerView → RunnerView → ℕ → Type 0
+AddsEachDueTo old new steps =
+    AddsEachBy (λ k. k) (kept_steps old) (kept_steps new) old.slots (rerun_start old) steps steps old.spacing new.left_out
+    × RisingBy (λ k. k) (kept_steps new)
 
 -- The meter counts the steps of a run from this step on, up to some step that it reaches within the limit, and no others.
 abbrev pub TicksTo : Answers → ℕ → ℕ → ℕ → ℕ → Type 0

@@ -2,8 +2,7 @@
 //!
 //! - `edit`, `change`, `touch`: edits and their refusals; the change that an accepted edit makes; the first step that a change
 //!   touches
-//! - `ring`, `run_notes`: checkpoints and the steps at which they are due; what may run out of memory, with a count of failed
-//!   allocations
+//! - `ring`: checkpoints, and the steps at which they are due
 //! - `run`, `rerun`: the loop from one due step to the next; where a rerun begins, and what it leaves
 //! - `runner`, `options`, `report`: `Runner`; how often and how many checkpoints are made; the result of a rerun
 //!
@@ -21,7 +20,6 @@ mod report;
 mod rerun;
 mod ring;
 mod run;
-mod run_notes;
 mod runner;
 mod touch;
 

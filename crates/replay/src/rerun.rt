@@ -1,10 +1,10 @@
-ghost use Rattle.std.specs.Prelude.{◌≡◌, ◌+◌, ◌^◌, ◌<◌, ◌≤◌, ◌⊎◌, Some, IfOk, IsSome, OnErr, OnOk, length, take, vec_len, nat_lt, if◌then◌else◌};
+ghost use Rattle.std.specs.Prelude.{◌≡◌, ◌+◌, ◌^◌, ◌<◌, ◌≤◌, ◌⊎◌, Some, IfOk, IsSome, MatchResult, OnErr, OnOk, length, take, vec_len, nat_lt, if◌then◌else◌};
 ghost use Rattle.machine.specs.Machine.{HasNoLooks, session_answers, after};
 ghost use Rattle.machine.specs.SavedState.{saved_state_of};
 ghost use Rattle.machine.specs.Session.{IsSession};
 ghost use Rattle.machine.specs.Machine.{cold_run};
 ghost use Rattle.machine.specs.Bound.{IsBound};
-ghost use Rattle.replay.specs.Resuming.{AddsWhileResumed, resume_step};
+ghost use Rattle.replay.specs.Resuming.{AddsDue, AddsEachDue, resume_step};
 ghost use Rattle.replay.specs.Ring.{Each, Rising, IsValidFor, SomeStep, start_step};
 ghost use Rattle.replay.specs.Fits.{kept_length};
 ghost use Rattle.replay.specs.LastState.{state_left_by};
@@ -13,7 +13,6 @@ ghost use Rattle.replay.specs.RunnerView.{IsSoundRunner, TicksTo};
 use crate::report::LastRun;
 use crate::ring::{Checkpoint, Checkpoints, latest_within, newest_step};
 use crate::run::resume;
-use crate::run_notes::AllocFailures;
 use circular_buffer::HeapCircularBuffer;
 use machine::{BlankMarks, Cause, Meter, STEP_LIMIT, SavedState, Session, State};
 use std::alloc::{AllocError, Global};
@@ -126,7 +125,7 @@ fn save_end(
 }
 
 /// Runs a session from the greatest kept step that is not past its limit, or else from the start, and keeps the state in which
-/// the run ends. Returns the number of steps and why the run ended. The count of failed allocations starts again at 0.
+/// the run ends. Returns the number of steps and why the run ended.
 ///
 /// # Errors
 ///
@@ -151,12 +150,17 @@ pub fn rerun(
     ensures broken_off { OnErr result
         (TicksTo (session_answers last_run.old.session) last_run.old.session.limit
         (resume_step last_run.old.session checkpoints.old) meter.old meter.new) }
-    ensures adds { AddsWhileResumed checkpoints.old checkpoints.new
-        (resume_step last_run.old.session checkpoints.old)
-        last_run.old.session.limit result }
+    ensures adds { MatchResult result
+        (λ r. AddsEachDue checkpoints.old checkpoints.new
+        (resume_step last_run.old.session checkpoints.old) r.0)
+        (λ _. AddsDue checkpoints.old checkpoints.new (resume_step last_run.old.session checkpoints.old)
+        last_run.old.session.limit) }
+    ensures options { (checkpoints.new.ring.capacity ≡ checkpoints.old.ring.capacity)
+        × (checkpoints.new.spacing ≡ checkpoints.old.spacing) }
 {
     last_run.end = None;
-    checkpoints.notes.alloc_failures = AllocFailures::new();
+    checkpoints.left_out = None;
+    checkpoints.notes.noted = Ok(());
     let newest = newest_step(&checkpoints.ring);
     let text_use = text_use_of(last_run.session.limit(), newest);
     let (from, mut state) = begin(
@@ -168,9 +172,9 @@ pub fn rerun(
         text_use,
     )?;
     let session = &last_run.session;
-    let ran = resume(session, checkpoints, meter, newest, from, &mut state);
+    let (steps, ran) = resume(session, checkpoints, meter, newest, from, &mut state);
     let kept = save_end(&mut last_run.text, &mut last_run.marks, state, text_use);
-    let (steps, cause) = ran?;
+    let cause = ran?;
     last_run.end = Some(kept);
     Ok((steps, cause))
 }

@@ -1,9 +1,10 @@
-ghost use Rattle.std.specs.Prelude.{◌≡◌, ℕ, ◌^◌, ◌+◌, ◌*◌, ◌/◌, ◌%◌, ◌<◌, ◌≤◌, ◌⊎◌, IfNone, IfSome, length, max};
+ghost use Rattle.std.specs.Prelude.{◌≡◌, ℕ, ◌+◌, ◌*◌, ◌/◌, ◌%◌, ◌<◌, ◌≤◌, ◌⊎◌, IfNone, IfSome, IsErr, OnErr, OnOk, length};
 ghost use Rattle.replay.specs.Ring.{Rising, IsNewest, PushesIfAbove, DropsPast, HasCheckpoint, checkpoint_at, ring_with, start_step};
 
-use crate::run_notes::{AllocFailures, RunNotes, save_or_count};
 use circular_buffer::HeapCircularBuffer;
+use first_looks::FirstLooks;
 use machine::{STEP_LIMIT, SavedState, State};
+use std::alloc::AllocError;
 
 /// A step that a run reached, and what is kept of the state there.
 #[derive(Drop)]
@@ -12,12 +13,28 @@ pub struct Checkpoint {
     pub state: SavedState,
 }
 
-/// The checkpoints of runs, the oldest first; the number of steps from one due checkpoint to the next; and the notes of the runs.
+/// A due step that has no checkpoint, and the allocation that failed.
+#[derive(Clone, Copy)]
+pub struct LeftOut {
+    pub step: u64,
+    pub failure: AllocError,
+}
+
+/// The first looks of runs, and the failed allocation if the last run could not note the looks of one of its steps.
+#[derive(Drop)]
+pub struct RunNotes {
+    pub looks: FirstLooks,
+    pub noted: Result<(), AllocError>,
+}
+
+/// The checkpoints of runs, the oldest first; the number of steps from one due checkpoint to the next; the notes of the runs; and the
+/// last checkpoint that the last run left out.
 #[derive(Drop)]
 pub struct Checkpoints {
     pub spacing: u64,
     pub ring: HeapCircularBuffer<Checkpoint>,
     pub notes: RunNotes,
+    pub left_out: Option<LeftOut>,
 }
 
 /// Returns the next step after `n` at which a checkpoint is due, or the limit if that comes first.
@@ -63,36 +80,31 @@ pub fn latest_within(ring: &HeapCircularBuffer<Checkpoint>, limit: u64) -> Optio
     None
 }
 
-/// Makes a checkpoint at `step` if that is above `newest` and not past `seen`, and returns the greater of `newest` and `step`. If
-/// an allocation fails, that is counted and the ring is unchanged.
+/// Makes a checkpoint at `step` if that is above `newest`. It needs the notes of the looks up to there.
+///
+/// # Errors
+///
+/// Returns `Err` if an allocation for the checkpoint failed, or the one for the notes. The ring is then unchanged.
 pub fn push_checkpoint(
     ring: &mut HeapCircularBuffer<Checkpoint>,
     newest: u64,
     step: u64,
-    seen: u64,
+    noted: Result<(), AllocError>,
     state: &mut State,
-    failures: &mut AllocFailures,
-) -> u64
-    requires room { failures.old < 2 ^ 63 }
-    ensures newest { result ≡ max newest step }
-    ensures seen { seen < step → ring.new ≡ ring.old }
+) -> Result<(), AllocError>
     ensures ring { PushesIfAbove newest ring.old ring.new (checkpoint_at step state.old.state) }
-    ensures made { newest < step → step ≤ seen → failures.new ≡ failures.old
-        → ring.new ≡ ring_with ring.old (checkpoint_at step state.old.state) }
-    ensures refused { (failures.new ≡ failures.old)
-        ⊎ ((newest < step) × (step ≤ seen) × (failures.new ≡ failures.old + 1) × (ring.new ≡ ring.old)) }
+    ensures made { OnOk result (newest < step
+        → ring.new ≡ ring_with ring.old (checkpoint_at step state.old.state)) }
+    ensures left_out { OnErr result ((newest < step) × (ring.new ≡ ring.old)) }
+    ensures noted { IsErr noted → ring.new ≡ ring.old }
     ensures state { state.new ≡ state.old }
 {
-    if step <= newest {
-        return newest;
-    }
-    if seen < step {
-        return step;
-    }
-    if let Some(kept) = save_or_count(state, failures) {
+    if newest < step {
+        noted?;
+        let kept = state.save()?;
         let _ = ring.push_back(Checkpoint { step, state: kept });
     }
-    step
+    Ok(())
 }
 
 /// Drops the checkpoints past step `touch`.

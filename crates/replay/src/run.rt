@@ -1,15 +1,13 @@
-ghost use Rattle.std.specs.Prelude.{◌≡◌, ℕ, ◌+◌, ◌-◌, ◌^◌, ◌<◌, ◌≤◌, ◌⊎◌, Some, IfOk, MatchOption, length};
-ghost use Rattle.machine.specs.Outcome.{Stop};
-ghost use Rattle.machine.specs.Machine.{HasNoQuestions, session_answers, after, outcome, looks_from};
-ghost use Rattle.machine.specs.Machine.{cold_run};
+ghost use Rattle.std.specs.Prelude.{◌≡◌, ℕ, ◌+◌, ◌-◌, ◌^◌, ◌<◌, ◌≤◌, ◌⊎◌, Some, None, IfNone, IfOk, IsOk, MatchResult, OnOk, length, max};
+ghost use Rattle.machine.specs.Machine.{HasNoQuestions, session_answers, after, looks_from, cold_run};
 ghost use Rattle.machine.specs.Bound.{IsBound};
+ghost use Rattle.machine.specs.Stretch.{RunsForgetting};
 ghost use Rattle.first_looks.specs.FirstLooks.{with_seen};
 ghost use Rattle.machine.specs.FirstLooks.{AllNoted, IsFirstLooks, AreFirstLooksAt, NotesSeenStep, ForgetsSeenStep};
-ghost use Rattle.replay.specs.Resuming.{CountsLooks, IsResumePoint, AreCheckpointsOf, AddsWhileResumed};
+ghost use Rattle.replay.specs.Resuming.{IsResumePoint, AreCheckpointsOf, AddsDue, AddsEachDue, left_out_step};
 ghost use Rattle.replay.specs.Ring.{Each, IsNewest};
 
-use crate::ring::{Checkpoints, due_after, push_checkpoint};
-use crate::run_notes::{RunNotes, note_or_count};
+use crate::ring::{Checkpoints, LeftOut, RunNotes, due_after, push_checkpoint};
 use first_looks::FirstLooks;
 use machine::{Cause, Meter, STEP_LIMIT, Session, State, run_from};
 use std::alloc::AllocError;
@@ -17,18 +15,17 @@ use std::alloc::AllocError;
 // Notes the looks of the steps from `n` to `reached - 1`, of which only the last looked at anything new. If `n` is not the step
 // `seen`, nothing is noted, and the looks at the script and at the host files are forgotten. If an allocation fails, `seen` stays
 // below `reached`, and no later step of the run is noted.
-fn note_last_step(notes: &mut RunNotes, state: &mut State, noted: usize, n: u64, reached: u64)
-    requires few { noted ≤ length state.old.looked.cells }
-    requires room { notes.old.alloc_failures < 2 ^ 63 }
+fn note_last_step(notes: &mut RunNotes, state: &mut State, looked: usize, n: u64, reached: u64)
+    requires few { looked ≤ length state.old.looked.cells }
     requires order { (n < reached) × (reached ≤ STEP_LIMIT) }
     ensures other { (n ≡ notes.old.looks.seen → ⊥)
-        → (notes.new ≡ notes.old) × HasNoQuestions state.new.looked }
+        → (notes.new.looks ≡ notes.old.looks) × HasNoQuestions state.new.looked }
     ensures here { n ≡ notes.old.looks.seen
         → (NotesSeenStep (with_seen notes.old.looks (reached - 1)) notes.new.looks
-        (looks_from noted state.old.looked)
-        × (notes.new.alloc_failures ≡ notes.old.alloc_failures) × HasNoQuestions state.new.looked)
+        (looks_from looked state.old.looked) × HasNoQuestions state.new.looked)
         ⊎ (ForgetsSeenStep (with_seen notes.old.looks (reached - 1)) notes.new.looks
-        × (notes.new.alloc_failures ≡ notes.old.alloc_failures + 1)) }
+        × ¬ IsOk notes.new.noted) }
+    ensures noted { IsOk notes.new.noted → IsOk notes.old.noted }
     ensures state { state.new.state ≡ state.old.state }
     ensures cells { state.new.looked.cells ≡ state.old.looked.cells }
     ensures beneath { state.new.beneath ≡ state.old.beneath }
@@ -38,7 +35,13 @@ fn note_last_step(notes: &mut RunNotes, state: &mut State, noted: usize, n: u64,
         return;
     }
     notes.looks.advance_to(reached - 1);
-    note_or_count(notes, state, noted);
+    match state.note_looks(looked, &mut notes.looks) {
+        Ok(()) => notes.looks.next_step(),
+        Err(failure) => {
+            notes.looks.erase_from(reached - 1);
+            notes.noted = Err(failure);
+        }
+    }
 }
 
 // Moves `seen` from `n` up to `reached`, if it is at `n`: the steps between looked at nothing new, and a stop follows.
@@ -61,7 +64,8 @@ fn bound_of(n: u64, seen: u64, end: u64) -> u64
     if n < seen && seen < end { seen } else { end }
 }
 
-// Runs from step `from` up to step `end` or to a stop. Returns the step that it reached, and the cause of the stop.
+// Runs from step `from` up to step `end` or to a stop, and notes the looks. Returns the step that it reached, also at `Err`, and the
+// cause of the stop.
 fn advance(
     state: &mut State,
     notes: &mut RunNotes,
@@ -69,43 +73,43 @@ fn advance(
     meter: &mut Meter,
     from: u64,
     end: u64,
-) -> Result<(u64, Option<Cause>), AllocError>
+) -> (u64, Result<Option<Cause>, AllocError>)
     requires at { after (session_answers session.now) from ≡ Some state.old.state }
-    requires noted { AreFirstLooksAt (session_answers session.now) notes.old.looks from state.old.looked }
+    requires looks { AreFirstLooksAt (session_answers session.now) notes.old.looks from state.old.looked }
+    requires noted { IsOk notes.old.noted → from ≤ notes.old.looks.seen }
     requires order { (from ≤ end) × (end ≤ STEP_LIMIT) }
-    requires room { (meter.old + (end - from) < 2 ^ 64) × (notes.old.alloc_failures ≤ STEP_LIMIT + from) }
+    requires room { meter.old + (end - from) < 2 ^ 64 }
     requires bound { IsBound session.now state.old }
-    ensures at { (n : ℕ) × (after (session_answers session.now) n ≡ Some state.new.state)
-        × (from ≤ n) × (n ≤ end)
-        × IfOk result (λ r. r.0 ≡ n) × (meter.new + from ≡ meter.old + n) }
-    ensures stopped { IfOk result (λ r. MatchOption r.1 (r.0 ≡ end)
-        (λ cause. (r.0 < end) × (outcome (session_answers session.now) state.new.state ≡ Stop cause))) }
-    ensures noted { IsFirstLooks (session_answers session.now) notes.new.looks }
-    ensures looks { IfOk result (λ r. MatchOption r.1
-        (r.0 ≤ notes.new.looks.seen → AllNoted notes.new.looks state.new.looked) (λ _. Unit {0})) }
+    ensures goes { RunsForgetting session.now from end result.0 result.1 state.new.state }
+    ensures ticks { meter.new + from ≡ meter.old + result.0 }
+    ensures first { IsFirstLooks (session_answers session.now) notes.new.looks }
     ensures seen { (notes.old.looks.seen ≤ notes.new.looks.seen) × (notes.new.looks.seen ≤ STEP_LIMIT) }
-    ensures counts { CountsLooks notes.old from notes.new result }
+    ensures noted { OnOk result.1 (IsOk notes.new.noted → result.0 ≤ notes.new.looks.seen) }
+    ensures looks { IfOk result.1 (λ stop. IfNone stop (result.0 ≤ notes.new.looks.seen
+        → AllNoted notes.new.looks state.new.looked)) }
     ensures bound { IsBound session.now state.new }
 {
     let mut n = from;
     while n < end {
-        let noted = state.look_count();
+        let looked = state.look_count();
         let bound = bound_of(n, notes.looks.seen(), end);
         let (reached, ended) = run_from(state, session, meter, n, bound);
-        let stop = ended?;
-        if let Some(cause) = stop {
-            pass_seen(&mut notes.looks, n, reached);
-            return Ok((reached, Some(cause)));
+        match ended {
+            Ok(None) => note_last_step(notes, state, looked, n, reached),
+            Ok(Some(cause)) => {
+                pass_seen(&mut notes.looks, n, reached);
+                return (reached, Ok(Some(cause)));
+            }
+            Err(failure) => return (reached, Err(failure)),
         }
-        note_last_step(notes, state, noted, n, reached);
         n = reached;
     }
-    Ok((n, None))
+    (n, Ok(None))
 }
 
-/// Runs from step `from` to the limit or a stop, and makes a checkpoint at each due step above `newest`. Returns the number of
-/// steps and why the run ended. `state` is then the last state that was reached, also at `Err`. At most one failed allocation
-/// is counted for each due step, and one for the first looks.
+/// Runs from step `from` to the limit or a stop, and makes a checkpoint at each due step above `newest`, or leaves it out if an
+/// allocation for it fails. Returns the number of steps, also at `Err`, and why the run ended. `state` is then the last state that was
+/// reached.
 ///
 /// # Errors
 ///
@@ -117,37 +121,47 @@ pub fn resume(
     newest: u64,
     from: u64,
     state: &mut State,
-) -> Result<(u64, Cause), AllocError>
+) -> (u64, Result<Cause, AllocError>)
     requires begins { IsResumePoint session.now checkpoints.old from state.old }
     requires sound { AreCheckpointsOf (session_answers session.now) checkpoints.old }
     requires newest { IsNewest newest checkpoints.old.ring.items }
-    requires counts { (meter.old ≤ 2 ^ 63) × (checkpoints.old.notes.alloc_failures ≡ 0) }
+    requires anew { IsOk checkpoints.old.notes.noted × (left_out_step checkpoints.old ≡ None) }
+    requires room { meter.old ≤ 2 ^ 63 }
     requires bound { IsBound session.now state.old }
-    ensures cold { IfOk result (λ r. cold_run session.now
-        ≡ record { state = state.new.state; steps = r.0; cause = r.1 }) }
-    ensures at { (n : ℕ) × (after (session_answers session.now) n ≡ Some state.new.state)
-        × (n ≤ session.now.limit)
-        × (newest ≤ from → Each (λ c. c.step ≤ n) checkpoints.new.ring.items) × (from ≤ n)
-        × (meter.new + from ≡ meter.old + n) × IfOk result (λ r. r.0 ≡ n) }
+    ensures cold { IfOk result.1 (λ cause. cold_run session.now
+        ≡ record { state = state.new.state; steps = result.0; cause = cause }) }
+    ensures at { after (session_answers session.now) result.0 ≡ Some state.new.state }
+    ensures within { (from ≤ result.0) × (result.0 ≤ session.now.limit) }
+    ensures ticks { meter.new + from ≡ meter.old + result.0 }
+    ensures upto { Each (λ c. c.step ≤ max newest result.0) checkpoints.new.ring.items }
     ensures same { session.now.limit < newest → checkpoints.new.ring ≡ checkpoints.old.ring }
-    ensures adds { AddsWhileResumed checkpoints.old checkpoints.new from session.now.limit result }
+    ensures adds { MatchResult result.1 (λ _. AddsEachDue checkpoints.old checkpoints.new from result.0)
+        (λ _. AddsDue checkpoints.old checkpoints.new from session.now.limit) }
+    ensures options { (checkpoints.new.ring.capacity ≡ checkpoints.old.ring.capacity)
+        × (checkpoints.new.spacing ≡ checkpoints.old.spacing) }
     ensures sound { AreCheckpointsOf (session_answers session.now) checkpoints.new }
 {
     let limit = session.limit();
     let spacing = checkpoints.spacing;
-    let mut newest_tried = newest;
     let mut n = from;
     while n < limit {
         let end = due_after(n, spacing, limit);
-        let (reached, stop) = advance(state, &mut checkpoints.notes, session, meter, n, end)?;
+        let (reached, ended) = advance(state, &mut checkpoints.notes, session, meter, n, end);
+        let stop = match ended {
+            Ok(stop) => stop,
+            Err(failure) => return (reached, Err(failure)),
+        };
+        let tried = newest.max(n);
+        let noted = checkpoints.notes.noted;
         n = reached;
-        let seen = checkpoints.notes.looks.seen();
-        let failures = &mut checkpoints.notes.alloc_failures;
-        let ring = &mut checkpoints.ring;
-        newest_tried = push_checkpoint(ring, newest_tried, n, seen, state, failures);
+        let made = push_checkpoint(&mut checkpoints.ring, tried, n, noted, state);
+        checkpoints.left_out = match made {
+            Ok(()) => checkpoints.left_out,
+            Err(failure) => Some(LeftOut { step: n, failure }),
+        };
         if let Some(cause) = stop {
-            return Ok((n, cause));
+            return (n, Ok(cause));
         }
     }
-    Ok((n, Cause::Limit))
+    (n, Ok(Cause::Limit))
 }

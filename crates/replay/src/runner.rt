@@ -6,7 +6,7 @@ ghost use Rattle.machine.specs.PlainState.{plain_run};
 ghost use Rattle.machine.specs.PlainLaid.{PlainRunIsCold};
 ghost use Rattle.replay.specs.Edits.{edited};
 ghost use Rattle.replay.specs.EditAnswers.{AnswersEdit, EditAllocates};
-ghost use Rattle.replay.specs.RunnerView.{DropsOldest, SameOptions, KeepsUntouched, AllStand, AddsDueTo, RerunsTo, RestartsCount, TicksTo};
+ghost use Rattle.replay.specs.RunnerView.{DropsOldest, SameOptions, KeepsUntouched, AllStand, AddsDueTo, AddsEachDueTo, TicksTo};
 ghost use Rattle.replay.specs.RunnerView.{kept_steps, rerun_start, with_no_checkpoint};
 
 use crate::change::{accept, apply, touch_of};
@@ -14,8 +14,7 @@ use crate::edit::{Edit, EditError};
 use crate::options::{Options, OptionsError};
 use crate::report::{LastRun, Report};
 use crate::rerun::rerun;
-use crate::ring::{Checkpoints, drop_past};
-use crate::run_notes::{AllocFailures, RunNotes};
+use crate::ring::{Checkpoints, RunNotes, drop_past};
 use circular_buffer::HeapCircularBuffer;
 use first_looks::FirstLooks;
 use machine::{Meter, STEP_LIMIT, Session};
@@ -47,6 +46,7 @@ impl Model for Runner {
     ghost use Rattle.std.specs.Prelude.{map};
     ghost use Rattle.std.specs.Coded.{codes};
     ghost use Rattle.machine.specs.StateView.{cells_code, changes_code, files_code};
+    ghost use Rattle.replay.specs.Resuming.{left_out_step};
     ghost use Rattle.replay.specs.RunnerView.{RunnerView, IsSoundRunner, checkpoint_with_text};
 
     ghost Value = { RunnerView };
@@ -58,7 +58,7 @@ impl Model for Runner {
       spacing = r.checkpoints.spacing;
       slots = r.checkpoints.ring.capacity;
       checkpoints = map (checkpoint_with_text r.last_run.text.items) r.checkpoints.ring.items;
-      alloc_failures = r.checkpoints.notes.alloc_failures;
+      left_out = left_out_step r.checkpoints;
     } };
 
     ghost invariant = { λ r. IsSoundRunner r.last_run.session r.last_run.text.items r.checkpoints };
@@ -110,8 +110,9 @@ impl Runner {
                 ring,
                 notes: RunNotes {
                     looks: FirstLooks::new(alloc),
-                    alloc_failures: AllocFailures::new(),
+                    noted: Ok(()),
                 },
+                left_out: None,
             },
         })
     }
@@ -133,12 +134,15 @@ impl Runner {
         }
     }
 
-    /// Returns how many allocations for checkpoints, or for the first looks that these need, failed in the last rerun. Each rerun
-    /// starts the count at 0, and nothing else changes it.
-    pub fn alloc_failures(&self) -> u64
-        ensures { result ≡ self.now.alloc_failures }
+    /// Returns the last step of the last rerun at which a checkpoint was due and was left out because an allocation failed, if there is
+    /// one.
+    pub fn left_out(&self) -> Option<u64>
+        ensures { result ≡ self.now.left_out }
     {
-        self.checkpoints.notes.alloc_failures.count()
+        match self.checkpoints.left_out {
+            Some(left_out) => Some(left_out.step),
+            None => None,
+        }
     }
 
     /// Drops the `count` oldest checkpoints, or all if there are fewer.
@@ -155,7 +159,7 @@ impl Runner {
     }
 
     /// Applies an edit. Exactly the checkpoints up to the touch are left: up to the first step with a look that the edited session
-    /// answers differently. The count of failed allocations stays the same.
+    /// answers differently. What the last rerun left out stays the same.
     ///
     /// # Errors
     ///
@@ -164,7 +168,7 @@ impl Runner {
         ensures answer { AnswersEdit (edited self.old.session edit) result self.new.session }
         ensures memory { result ≡ Err EditError.OutOfMemory → EditAllocates edit }
         ensures options { SameOptions self.old self.new }
-        ensures alloc_failures { self.new.alloc_failures ≡ self.old.alloc_failures }
+        ensures left_out { self.new.left_out ≡ self.old.left_out }
         ensures kept { OnOk result
             (KeepsUntouched (session_answers self.old.session) (session_answers self.new.session)
             self.old.checkpoints self.new.checkpoints) }
@@ -184,9 +188,9 @@ impl Runner {
         Ok(())
     }
 
-    /// Runs the session from the greatest kept step that is not past its limit, or else from its start, and returns a report. If
-    /// no allocation failed, each due step that the run reached above the old checkpoints has been given a checkpoint, of which
-    /// the newest remain. The count of failed allocations is for this rerun alone.
+    /// Runs the session from the greatest kept step that is not past its limit, or else from its start, and returns a report. Each due
+    /// step that the run reached above the old checkpoints and after the one at `left_out` has been given a checkpoint, of which the
+    /// newest remain. `left_out` is for this rerun alone.
     ///
     /// # Errors
     ///
@@ -196,9 +200,8 @@ impl Runner {
         requires { meter.old ≤ 2 ^ 63 }
         ensures* ends { sem 𝓛 (EndsAs self.entry (λ n.
             (n.session ≡ self.old.session) × SameOptions self.old n × AllStand n
-            × MatchResult result (λ r. RerunsTo self.old n (run_of r).steps)
-            (λ _. AddsDueTo self.old n self.old.session.limit
-            × RestartsCount self.old n self.old.session.limit))) }
+            × MatchResult result (λ r. AddsEachDueTo self.old n (run_of r).steps)
+            (λ _. AddsDueTo self.old n self.old.session.limit))) }
         ensures run { IfOk result (λ r. run_of r ≡ plain_run self.old.session) }
         ensures session { IfOk result (λ r. session_of r ≡ self.old.session) }
         ensures ticked { IfOk result (λ r. meter.new + rerun_start self.old

@@ -48,7 +48,7 @@ fn run(rt: &impl Print, runner: &mut Runner) -> Result<u64, Trouble> {
     Err(Trouble::RunLeftOther)
 }
 
-// Prints how many steps were executed, the steps of the checkpoints, and how many allocations failed in the last run.
+// Prints how many steps were executed, the steps of the checkpoints, and the last step that the last run left out, or 0.
 fn tell_kept(rt: &impl Print, runner: &Runner, executed: u64) -> Result<(), Trouble> {
     print!(rt; "executed {executed}")?;
     for index in 0..SLOTS {
@@ -56,7 +56,7 @@ fn tell_kept(rt: &impl Print, runner: &Runner, executed: u64) -> Result<(), Trou
             print!(rt; " {step}")?;
         }
     }
-    println!(rt; "\nfailures {}", runner.alloc_failures())?;
+    println!(rt; "\nleft out {}", runner.left_out().unwrap_or(0))?;
     Ok(())
 }
 

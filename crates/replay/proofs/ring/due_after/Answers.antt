@@ -1,6 +1,6 @@
 use Rattle.std.proofs.Common.{◌+◌, ◌/◌, inl, arith}
 use Rattle.std.proofs.Math.Nat.{mul-mod_left}
-use Rattle.replay.proofs.CompleteLemmas.{no_multiple}
+use Rattle.replay.proofs.DueLemmas.{no_multiple}
 use Rattle.replay.proofs.ring.due_after.Goals as goal
 
 pub returns-then-next-limit-clause-marked : goal.returns-then-next-limit-clause-marked

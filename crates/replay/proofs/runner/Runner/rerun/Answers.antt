@@ -4,7 +4,7 @@ use Rattle.machine.proofs.ColdLemmas.{reports_run}
 use Rattle.replay.proofs.RingLemmas.{on_err}
 use Rattle.replay.proofs.OutcomeLemmas.{if_err, match_err}
 use Rattle.replay.proofs.RunnerLemmas.{all_stand}
-use Rattle.replay.proofs.StepsLemmas.{reran, none_left, rerun_begins}
+use Rattle.replay.proofs.StepsLemmas.{reran, reran_each, rerun_begins}
 use Rattle.replay.proofs.runner.Runner.rerun.Goals as goal
 
 pub returns-in_err-steps : goal.returns-in_err-steps
@@ -18,12 +18,11 @@ returns-in_err-steps c =
         (λ _. tt),
         (
           c.rerun.ensures.session.0,
-          record { spacing = c.in_err-steps.ensures.adds.spacing; slots = c.in_err-steps.ensures.adds.capacity },
+          record { spacing = c.rerun.ensures.options.1; slots = c.rerun.ensures.options.0 },
           all_stand _ _ _ c.rerun.ensures.sound.valid,
           match_err c.from_residual.result _ _ c.from_residual.ensures.0 (
-            reran text c.rerun.new.last_run.text.items ring c.rerun.new.checkpoints.ring.items _ _ _ _ c.rerun.ensures.sound.rising c.in_err-steps.ensures.adds.adds,
-            c.in_err-steps.ensures.adds.counted,
-          ),
+              reran text c.rerun.new.last_run.text.items ring c.rerun.new.checkpoints.ring.items _ _ _ _ _ c.rerun.ensures.sound.rising c.in_err-steps.ensures.adds
+              ),
         ),
       ),
       record {
@@ -53,13 +52,9 @@ returns c =
         (λ _. tt),
         (
           c.rerun.ensures.session.0,
-          record { spacing = c.in_ok-steps.ensures.adds.0.spacing; slots = c.in_ok-steps.ensures.adds.0.capacity },
+          record { spacing = c.rerun.ensures.options.1; slots = c.rerun.ensures.options.0 },
           all_stand _ _ _ c.rerun.ensures.sound.valid,
-          (
-            reran text c.rerun.new.last_run.text.items ring c.rerun.new.checkpoints.ring.items _ _ _ _ c.rerun.ensures.sound.rising c.in_ok-steps.ensures.adds.0.adds,
-            λ none. none_left text c.rerun.new.last_run.text.items ring c.rerun.new.checkpoints.ring.items _ _ _ _ (c.in_ok-steps.ensures.adds.1 none),
-            c.in_ok-steps.ensures.adds.0.counted,
-          ),
+          reran_each text c.rerun.new.last_run.text.items ring c.rerun.new.checkpoints.ring.items _ _ _ _ _ c.rerun.ensures.sound.rising c.in_ok-steps.ensures.adds,
         ),
       ),
       record {
