@@ -16,7 +16,7 @@ use Rattle.machine.specs.Machine.{session_answers, after, cell_at, outcome}
 use Rattle.machine.specs.PlainLaid.{laid_state, plain_after}
 use Rattle.machine.specs.PlainState.{PlainState, loaded_machine, plain_outcome}
 use Rattle.machine.specs.Runs.{Leads, MakesNoCall, RunView, StopsBelow, StopsHere, EndsBy, IsAtCall, state_of}
-use Rattle.machine.specs.Stretch.{CallsNothing, RunsForgetting, RunsToCall}
+use Rattle.machine.specs.Stretch.{CallsNothing, RunsTo, RunsToCall}
 use Rattle.std.specs.FinMap as finmap
 use Rattle.machine.specs.WrittenCells.{DeskAndFiles, state_with, written_cells}
 use Rattle.i8080.specs.declared.registers.Regs.{Regs}
@@ -90,7 +90,7 @@ module _ (s : Session) (from n : ℕ) (seen seen' : Option ℕ) (st st' : Partia
       let equal : st' ≡ st = cc in
       plain_stop before st is at cause (ap (outcome (session_answers s)) (sym equal) ∙ stops)
 
-  pub leads : (result : Result (Option Cause) AllocError) → RunsForgetting s from (from + 1) n result st' → IfOk result (λ stop. Leads before then stop)
+  pub leads : (result : Result (Option Cause) AllocError) → RunsTo s from (from + 1) n result st' → IfOk result (λ stop. Leads before then stop)
   leads (Ok None) w = (w.ended, leads_on w.ended)
   leads (Ok (Some cause)) w =
       let none : n ≡ from = omega (arith, w.within, w.stopped.0) in

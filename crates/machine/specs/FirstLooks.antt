@@ -1,9 +1,8 @@
 -- The first looks of a session. (This project's own.)
-use Rattle.std.specs.Prelude.{◌≡◌, ℕ, zero, suc, ◌+◌, ◌≤◌, nat_lt, if◌then◌else◌, Option, None, true}
+use Rattle.std.specs.Prelude.{◌≡◌, ℕ, zero, suc, ◌+◌, nat_lt, if◌then◌else◌, Option, None, true}
 use Rattle.first_looks.specs.declared.question.Question.{Question}
 use Rattle.first_looks.specs.Questions.{is_in}
 use Rattle.first_looks.specs.FirstLooks.{FirstLooksView, NotesLooks, ErasesLooks, step_of, or_else, step_if}
-use Rattle.machine.specs.declared.session.TheConstants.{STEP_LIMIT}
 use Rattle.machine.specs.StateView.{AllLooks}
 use Rattle.machine.specs.Machine.{Answers, looks, is_looked_at}
 
@@ -23,12 +22,6 @@ pub record IsFirstLooks (f : Answers) (t : FirstLooksView) : Type 0 where
 -- Each question that was looked at has an entry.
 abbrev pub AllNoted : FirstLooksView → AllLooks → Type 0
 AllNoted t looked = (q : Question) → is_looked_at looked q ≡ true → step_of t q ≡ None → ⊥
-
--- The table has the first looks of a session, and if they reach a step, each question that was looked at there has an entry.
-pub record AreFirstLooksAt (f : Answers) (t : FirstLooksView) (step : ℕ) (looked : AllLooks) : Type 0 where
-  pub first : IsFirstLooks f t
-  pub all : step ≤ t.seen → AllNoted t looked
-  pub seen_in : t.seen ≤ STEP_LIMIT
 
 -- The looks of step `seen` are noted, and it is now seen.
 pub record NotesSeenStep (old new : FirstLooksView) (looked : AllLooks) : Type 0 where

@@ -55,7 +55,7 @@ pub record RunsQuietly (n : ℕ) (old new : StateView) : Type 0 where
   pub beneath : image_beneath new ≡ image_beneath old
 
 -- Steps from `from` on led to the state after n steps: to step `end`, to a stop before it, or to an error before it.
-pub record RunsForgetting (s : Session) (from end n : ℕ) (result : Result (Option Cause) AllocError) (new : PartialState) : Type 0 where
+pub record RunsTo (s : Session) (from end n : ℕ) (result : Result (Option Cause) AllocError) (new : PartialState) : Type 0 where
   pub within : (from ≤ n) × (n ≤ end)
   pub at : after (session_answers s) n ≡ Some new
   pub ended : IfOk result (λ stop. IfNone stop (n ≡ end))

@@ -9,7 +9,7 @@ ghost use Rattle.machine.specs.Machine.{session_answers, after, HasNoHostQuestio
 ghost use Rattle.machine.specs.Session.{image_of};
 ghost use Rattle.machine.specs.Stops.{stop_of_instruction};
 ghost use Rattle.machine.specs.TakesStep.{memory_over_image, TakesStep};
-ghost use Rattle.machine.specs.Stretch.{RunsForgetting, RunsQuietly, RunsStretch, RunsToCall};
+ghost use Rattle.machine.specs.Stretch.{RunsTo, RunsQuietly, RunsStretch, RunsToCall};
 
 use crate::meter::Meter;
 use crate::session::Session;
@@ -182,7 +182,7 @@ pub(crate) fn run_forgetting(
     requires order { from ≤ end }
     requires at { after (session_answers session.now) from ≡ Some state.old.state }
     requires bound { IsBound session.now state.old }
-    ensures runs { RunsForgetting session.now from end result.0 result.1 state.new.state }
+    ensures runs { RunsTo session.now from end result.0 result.1 state.new.state }
     ensures forgets { HasNoHostQuestions state.old.looked
         → IfOk result.1 (λ stop. IfNone stop (HasNoHostQuestions state.new.looked)) }
     ensures bound { IsBound session.now state.new }

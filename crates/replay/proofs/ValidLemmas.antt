@@ -18,11 +18,18 @@ use Rattle.replay.specs.declared.ring.Checkpoints.{Checkpoints}
 use Rattle.replay.specs.declared.ring.LeftOut.{LeftOut}
 use Rattle.replay.specs.declared.ring.RunNotes.{RunNotes}
 use Rattle.replay.specs.Resuming.{AreCheckpointsOf}
+use Rattle.replay.specs.RunnerView.{AreCheckpoints}
 use Rattle.replay.specs.Ring.{Each, IsValid, IsValidFor, PushesIfAbove, SomeStep, checkpoint_at, start_step}
 use Rattle.replay.proofs.RingLemmas.{Each-weaken, kept_each, kept_rising}
 
 pub new_valid : (f : Answers) (n : ℕ) (st : PartialState) → 1 ≤ n → after f n ≡ Some st → IsValid f (record { step = n; state = saved_state_of st })
 new_valid f n st later at = record { later = later; text = st.core.desk.text; fits = refl; state = at }
+
+-- Something else holds for each of the checkpoints.
+pub each_now : (P Q : Checkpoint → Type 0) (f : Answers) (old : Checkpoints) (noted : Result (Unit {0}) AllocError) (left : Option LeftOut) → AreCheckpoints P f old → Each Q old.ring.items
+    → AreCheckpoints Q f (record old { notes = record { looks = old.notes.looks; noted = noted }; left_out = left })
+each_now P Q f old noted left sound valid =
+    record { valid = valid; rising = sound.rising; below = sound.below; noted = sound.noted; spacing_in = sound.spacing_in; seen_in = sound.seen_in }
 
 -- The looks of more steps are noted.
 pub noted_on : (f : Answers) (old : Checkpoints) (notes : RunNotes) → AreCheckpointsOf f old → IsFirstLooks f notes.looks

@@ -1,11 +1,14 @@
 -- How a run resumes from a kept step, and how it leaves the checkpoints. (This project's own.)
-use Rattle.std.specs.Prelude.{◌≡◌, ℕ, ◌≤◌, ◌⊎◌, Some, Option, length}
+use Rattle.std.specs.Prelude.{◌≡◌, ℕ, ◌≤◌, ◌⊎◌, Some, Option, IsOk, length}
 use Rattle.std.specs.Option.{option_map}
 use Rattle.machine.specs.Inputs.{Session}
 use Rattle.machine.specs.StateView.{StateView}
+use Rattle.machine.specs.declared.session.TheConstants.{STEP_LIMIT}
 use Rattle.machine.specs.Machine.{Answers, session_answers, after}
+use Rattle.machine.specs.Bound.{IsBound}
+use Rattle.machine.specs.FirstLooks.{AllNoted, IsFirstLooks}
 use Rattle.replay.specs.declared.ring.Checkpoints.{Checkpoints}
-use Rattle.machine.specs.FirstLooks.{AllNoted}
+use Rattle.replay.specs.declared.ring.RunNotes.{RunNotes}
 use Rattle.replay.specs.RunnerView.{AreCheckpoints}
 use Rattle.replay.specs.Ring.{IsValid, SomeStep, Adds, AddsEach, start_step}
 
@@ -13,12 +16,19 @@ use Rattle.replay.specs.Ring.{IsValid, SomeStep, Adds, AddsEach, start_step}
 abbrev pub resume_step : Session → Checkpoints → ℕ
 resume_step s checkpoints = start_step s.limit checkpoints.ring.items
 
--- A run of a session resumes here from a kept step or from the start; what was looked at is noted, and the checkpoints fit their
--- slots.
+-- A run of a session is in this state after this step. The notes are its first looks; what was looked at is noted if they reach the
+-- step, and they do unless an allocation failed.
+pub record IsAt (s : Session) (step : ℕ) (state : StateView) (notes : RunNotes) : Type 0 where
+  pub at : after (session_answers s) step ≡ Some state.state
+  pub bound : IsBound s state
+  pub first : IsFirstLooks (session_answers s) notes.looks
+  pub all : step ≤ notes.looks.seen → AllNoted notes.looks state.looked
+  pub noted : IsOk notes.noted → step ≤ notes.looks.seen
+  pub seen_in : notes.looks.seen ≤ STEP_LIMIT
+
+-- A run of a session resumes here from a kept step or from the start, and the checkpoints fit their slots.
 pub record IsResumePoint (s : Session) (checkpoints : Checkpoints) (from : ℕ) (state : StateView) : Type 0 where
-  pub at : after (session_answers s) from ≡ Some state.state
-  pub looks : AllNoted checkpoints.notes.looks state.looked
-  pub seen : from ≤ checkpoints.notes.looks.seen
+  pub run : IsAt s from state checkpoints.notes
   pub low : from ≤ s.limit
   pub started : (from ≡ 0) ⊎ SomeStep checkpoints.ring.items from
   pub room : length checkpoints.ring.items ≤ checkpoints.ring.capacity

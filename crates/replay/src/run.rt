@@ -1,10 +1,9 @@
 ghost use Rattle.std.specs.Prelude.{◌≡◌, ℕ, ◌+◌, ◌-◌, ◌^◌, ◌<◌, ◌≤◌, ◌⊎◌, Some, None, IfNone, IfOk, IsOk, MatchResult, OnOk, length, max};
 ghost use Rattle.machine.specs.Machine.{HasNoQuestions, session_answers, after, looks_from, cold_run};
-ghost use Rattle.machine.specs.Bound.{IsBound};
-ghost use Rattle.machine.specs.Stretch.{RunsForgetting};
+ghost use Rattle.machine.specs.Stretch.{RunsTo};
 ghost use Rattle.first_looks.specs.FirstLooks.{with_seen};
-ghost use Rattle.machine.specs.FirstLooks.{AllNoted, IsFirstLooks, AreFirstLooksAt, NotesSeenStep, ForgetsSeenStep};
-ghost use Rattle.replay.specs.Resuming.{IsResumePoint, AreCheckpointsOf, AddsDue, AddsEachDue, left_out_step};
+ghost use Rattle.machine.specs.FirstLooks.{IsFirstLooks, NotesSeenStep, ForgetsSeenStep};
+ghost use Rattle.replay.specs.Resuming.{IsAt, IsResumePoint, AreCheckpointsOf, AddsDue, AddsEachDue, left_out_step};
 ghost use Rattle.replay.specs.Ring.{Each, IsNewest};
 
 use crate::ring::{Checkpoints, LeftOut, RunNotes, due_after, push_checkpoint};
@@ -74,20 +73,15 @@ fn advance(
     from: u64,
     end: u64,
 ) -> (u64, Result<Option<Cause>, AllocError>)
-    requires at { after (session_answers session.now) from ≡ Some state.old.state }
-    requires looks { AreFirstLooksAt (session_answers session.now) notes.old.looks from state.old.looked }
-    requires noted { IsOk notes.old.noted → from ≤ notes.old.looks.seen }
+    requires run { IsAt session.now from state.old notes.old }
     requires order { (from ≤ end) × (end ≤ STEP_LIMIT) }
     requires room { meter.old + (end - from) < 2 ^ 64 }
-    requires bound { IsBound session.now state.old }
-    ensures goes { RunsForgetting session.now from end result.0 result.1 state.new.state }
+    ensures goes { RunsTo session.now from end result.0 result.1 state.new.state }
     ensures ticks { meter.new + from ≡ meter.old + result.0 }
     ensures first { IsFirstLooks (session_answers session.now) notes.new.looks }
     ensures seen { (notes.old.looks.seen ≤ notes.new.looks.seen) × (notes.new.looks.seen ≤ STEP_LIMIT) }
     ensures noted { OnOk result.1 (IsOk notes.new.noted → result.0 ≤ notes.new.looks.seen) }
-    ensures looks { IfOk result.1 (λ stop. IfNone stop (result.0 ≤ notes.new.looks.seen
-        → AllNoted notes.new.looks state.new.looked)) }
-    ensures bound { IsBound session.now state.new }
+    ensures run { IfOk result.1 (λ stop. IfNone stop (IsAt session.now result.0 state.new notes.new)) }
 {
     let mut n = from;
     while n < end {
@@ -127,7 +121,6 @@ pub fn resume(
     requires newest { IsNewest newest checkpoints.old.ring.items }
     requires anew { IsOk checkpoints.old.notes.noted × (left_out_step checkpoints.old ≡ None) }
     requires room { meter.old ≤ 2 ^ 63 }
-    requires bound { IsBound session.now state.old }
     ensures cold { IfOk result.1 (λ cause. cold_run session.now
         ≡ record { state = state.new.state; steps = result.0; cause = cause }) }
     ensures at { after (session_answers session.now) result.0 ≡ Some state.new.state }

@@ -5,7 +5,7 @@ use Rattle.replay.proofs.DueLemmas.{none_added}
 use Rattle.replay.specs.Ring.{start_step}
 use Rattle.replay.proofs.StartLemmas.{start_within, start_reached}
 use Rattle.machine.proofs.NoteLemmas.{none_looked}
-use Rattle.replay.proofs.ValidLemmas.{stands_valid, Left, left}
+use Rattle.replay.proofs.ValidLemmas.{each_now, stands_valid, Left, left}
 use Rattle.replay.proofs.OutcomeLemmas.{match_err}
 use Rattle.replay.proofs.rerun.rerun.Goals as goal
 
@@ -22,23 +22,22 @@ returns-in_err-cause-clause-broken_off c =
 
 pub resume-steps-requires-clause-begins : goal.resume-steps-requires-clause-begins
 resume-steps-requires-clause-begins c = record {
-  at = c.in_ok-from.ensures.at;
-  looks = none_looked c.args.checkpoints.now.notes.looks _ c.in_ok-from.ensures.looked;
-  seen = begins_below c.in_ok-from.from c.args.checkpoints.now.notes.looks.seen c.args.checkpoints.now.ring.items c.in_ok-from.ensures.started c.requires.sound.below;
+  run = record {
+    at = c.in_ok-from.ensures.at;
+    bound = c.in_ok-from.ensures.bound;
+    first = c.requires.sound.noted;
+    all = λ _. none_looked c.args.checkpoints.now.notes.looks _ c.in_ok-from.ensures.looked;
+    noted = λ _. begins_below c.in_ok-from.from c.args.checkpoints.now.notes.looks.seen c.args.checkpoints.now.ring.items c.in_ok-from.ensures.started c.requires.sound.below;
+    seen_in = c.requires.sound.seen_in;
+  };
   low = rw c.in_ok-from.ensures.step (start_within c.args.last_run.now.session.limit c.args.checkpoints.now.ring.items);
   started = c.in_ok-from.ensures.started;
   room = c.in_ok-from.ensures.room;
 }
 
 pub resume-steps-requires-clause-sound : goal.resume-steps-requires-clause-sound
-resume-steps-requires-clause-sound c = record {
-  valid = stands_valid (session_answers c.args.last_run.now.session) c.args.last_run.now.text.items c.args.checkpoints.now.ring.items c.requires.sound.valid;
-  rising = c.requires.sound.rising;
-  below = c.requires.sound.below;
-  noted = c.requires.sound.noted;
-  spacing_in = c.requires.sound.spacing_in;
-  seen_in = c.requires.sound.seen_in;
-}
+resume-steps-requires-clause-sound c =
+    each_now _ _ _ _ _ _ c.requires.sound (stands_valid (session_answers c.args.last_run.now.session) c.args.last_run.now.text.items c.args.checkpoints.now.ring.items c.requires.sound.valid)
 
 failed : (c : goal.After-drop-kept-inside-in_err-cause) → Left (session_answers c.args.last_run.now.session) c.resume-steps.new.state.state c.save_end-kept.new.text.items c.resume-steps.new.checkpoints.ring.items
 failed c =
@@ -57,24 +56,10 @@ ended c =
     _ c.text_use_of-text_use.ensures c.in_ok-from.ensures.copied c.save_end-kept.ensures.moved c.save_end-kept.ensures.copied
 
 pub returns-in_err-cause-clause-sound : goal.returns-in_err-cause-clause-sound
-returns-in_err-cause-clause-sound c = record {
-  valid = (failed c).stands;
-  rising = c.resume-steps.ensures.sound.rising;
-  below = c.resume-steps.ensures.sound.below;
-  noted = c.resume-steps.ensures.sound.noted;
-  spacing_in = c.resume-steps.ensures.sound.spacing_in;
-  seen_in = c.resume-steps.ensures.sound.seen_in;
-}
+returns-in_err-cause-clause-sound c = each_now _ _ _ _ _ _ c.resume-steps.ensures.sound (failed c).stands
 
 pub returns-clause-sound : goal.returns-clause-sound
-returns-clause-sound c = record {
-  valid = (ended c).stands;
-  rising = c.resume-steps.ensures.sound.rising;
-  below = c.resume-steps.ensures.sound.below;
-  noted = c.resume-steps.ensures.sound.noted;
-  spacing_in = c.resume-steps.ensures.sound.spacing_in;
-  seen_in = c.resume-steps.ensures.sound.seen_in;
-}
+returns-clause-sound c = each_now _ _ _ _ _ _ c.resume-steps.ensures.sound (ended c).stands
 
 pub returns-clause-ended : goal.returns-clause-ended
 returns-clause-ended c = (refl, rw c.save_end-kept.ensures.kept (ended c).fits)

@@ -21,19 +21,19 @@ loop-n-preserved c =
     let seen : c.loop-n.n < c.loop-n.notes.looks.seen → reached ≤ c.loop-n.notes.looks.seen = λ low. omega (arith, stretch.within, c.seen.ensures, c.bound_of-bound.ensures.seen (omega (arith, low, c.seen.ensures))) in
     let did = c.note_last_step.ensures in
     let notes = stretch_kept c.args.session.now c.bound_of-bound.result c.loop-n.n reached c.loop-n.notes.looks c.note_last_step.new.notes.looks (IsOk c.note_last_step.new.notes.noted) _ c.loop-n.state.looked
-    c.run_from-reached.new.state.looked c.note_last_step.new.state.looked stretch more i.looks.first i.looks.all seen did.cells did.other (rw c.look_count-looked.ensures at did.here) in
+    c.run_from-reached.new.state.looked c.note_last_step.new.state.looked stretch more i.run.first i.run.all seen did.cells did.other (rw c.look_count-looked.ensures at did.here) in
     record {
-      at = stretch.at ∙ ap (λ (st : PartialState). Some st) (sym did.state);
-      within = (omega (arith, more, i.within), omega (arith, stretch.within, c.bound_of-bound.ensures.within));
-      meter = omega (arith, c.run_from-reached.ensures.ticks, i.meter);
-      bound = still_bound c.args.session.now c.run_from-reached.new.state c.note_last_step.new.state did.beneath c.run_from-reached.ensures.bound;
-      looks = record {
+      run = record {
+        at = stretch.at ∙ ap (λ (st : PartialState). Some st) (sym did.state);
+        bound = still_bound c.args.session.now c.run_from-reached.new.state c.note_last_step.new.state did.beneath c.run_from-reached.ensures.bound;
         first = notes.noted;
         all = notes.looks;
-        seen_in = elim notes.within [ inl e ↦ omega (arith, e, i.looks.seen_in) | inr e ↦ omega (arith, e, stretch.within, c.bound_of-bound.ensures.within, c.requires.order) ];
+        noted = λ ok. notes.all ok (i.run.noted (did.noted ok));
+        seen_in = elim notes.within [ inl e ↦ omega (arith, e, i.run.seen_in) | inr e ↦ omega (arith, e, stretch.within, c.bound_of-bound.ensures.within, c.requires.order) ];
       };
+      within = (omega (arith, more, i.within), omega (arith, stretch.within, c.bound_of-bound.ensures.within));
+      meter = omega (arith, c.run_from-reached.ensures.ticks, i.meter);
       grows = omega (arith, notes.grows, i.grows);
-      noted = λ ok. notes.all ok (i.noted (did.noted ok));
     }
 
 pub returns-in-Ok-Some-clause-first : goal.returns-in-Ok-Some-clause-first
@@ -47,6 +47,6 @@ returns-in-Ok-Some-clause-first c =
           let quiet : LooksAtNothingNew (session_answers c.args.session.now) c.loop-n.state.looked c.loop-n.notes.looks.seen c.run_from-reached.result.0 =
           subst (λ (k : ℕ). LooksAtNothingNew (session_answers c.args.session.now) c.loop-n.state.looked k c.run_from-reached.result.0) e.1 stretch.before_stop in
           subst (λ (t : FirstLooksView). IsFirstLooks (session_answers c.args.session.now) t) (sym (c.pass_seen.ensures.here e.1))
-          (passed (session_answers c.args.session.now) c.loop-n.notes.looks c.loop-n.state.looked i.looks.first (i.looks.all (omega (arith, e.1))) c.run_from-reached.result.0 (omega (arith, e.1, stretch.within)) quiet)
-      | inr ne ↦ subst (λ (t : FirstLooksView). IsFirstLooks (session_answers c.args.session.now) t) (sym (c.pass_seen.ensures.other ne.1)) i.looks.first
+          (passed (session_answers c.args.session.now) c.loop-n.notes.looks c.loop-n.state.looked i.run.first (i.run.all (omega (arith, e.1))) c.run_from-reached.result.0 (omega (arith, e.1, stretch.within)) quiet)
+      | inr ne ↦ subst (λ (t : FirstLooksView). IsFirstLooks (session_answers c.args.session.now) t) (sym (c.pass_seen.ensures.other ne.1)) i.run.first
     ]

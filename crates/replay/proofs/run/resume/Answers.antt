@@ -9,12 +9,9 @@ use Rattle.replay.proofs.run.resume.Goals.{in-Ok-made, in-Err-made}
 
 pub loop-n-init : goal.loop-n-init
 loop-n-init c = record {
-  at = c.requires.begins.at;
+  run = c.requires.begins.run;
   within = (omega arith, rw c.limit-limit.ensures.value c.requires.begins.low);
   meter = refl;
-  bound = c.requires.bound;
-  looks = λ _. c.requires.begins.looks;
-  noted = λ _. c.requires.begins.seen;
   sound = c.requires.sound;
   spacing = refl;
   capacity = refl;
@@ -73,21 +70,17 @@ loop-n-preserved c =
     let i = c.loop-n.invariant in
     let did = c.advance-reached.ensures in
     let ended = rw (c.in-Ok.is, c.in_default.is) at did.goes.ended in
-    let looks = rw (c.in-Ok.is, c.in_default.is) at did.looks in
-    let noted = rw c.in-Ok.is at did.noted in
+    let run = rw (c.in-Ok.is, c.in_default.is) at did.run in
     let marked = rw (← ended) at c.due_after-end.ensures.marked in
     let within = did.goes.within in
     let later = c.due_after-end.ensures.later in
     let pushed = c.push_checkpoint-made.ensures in
     let ring = rw c.max-tried.ensures at pushed.ring in
     record {
-      at = rw pushed.state did.goes.at;
+      run = rw pushed.state run;
       within = (omega (arith, within, i.within), omega (arith, within, later));
       meter = omega (arith, did.ticks, i.meter);
-      bound = rw pushed.state did.bound;
-      looks = rw pushed.state looks;
-      noted = noted;
-      sound = pushed_sound _ (record c.loop-n.checkpoints { notes = c.advance-reached.new.notes }) _ _ _ _ _ (noted_on _ c.loop-n.checkpoints _ i.sound did.first did.seen) did.goes.at ring pushed.noted noted i.top;
+      sound = pushed_sound _ (record c.loop-n.checkpoints { notes = c.advance-reached.new.notes }) _ _ _ _ _ (noted_on _ c.loop-n.checkpoints _ i.sound did.first did.seen) did.goes.at ring pushed.noted run.noted i.top;
       spacing = i.spacing;
       capacity = kept_capacity _ c.loop-n.checkpoints.ring _ _ ring ∙ i.capacity;
       adds = continued _ _ _ _ _ _ _ _ _ _ _ c.requires.newest i.within.0 within.0 (omega (arith, within, later)) marked
@@ -103,7 +96,7 @@ loop-n-preserved c =
     }
 
 pub returns-clause-cold : goal.returns-clause-cold
-returns-clause-cold c = cold_limit _ _ _ c.loop-n.invariant.at (omega arith)
+returns-clause-cold c = cold_limit _ _ _ c.loop-n.invariant.run.at (omega arith)
 
 pub returns-clause-adds : goal.returns-clause-adds
 returns-clause-adds c =

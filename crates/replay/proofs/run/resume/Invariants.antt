@@ -1,20 +1,14 @@
-use Rattle.std.proofs.Common.{◌≡◌, ◌+◌, ◌-◌, ◌%◌, ◌<◌, ◌≤◌, ◌⊎◌, max, Some}
-use Rattle.std.specs.Prelude.{IsOk}
-use Rattle.machine.specs.Machine.{session_answers, after}
-use Rattle.machine.specs.Bound.{IsBound}
-use Rattle.machine.specs.FirstLooks.{AllNoted}
-use Rattle.replay.specs.Resuming.{AreCheckpointsOf, left_out_step}
+use Rattle.std.proofs.Common.{◌≡◌, ◌+◌, ◌-◌, ◌%◌, ◌<◌, ◌≤◌, ◌⊎◌, max}
+use Rattle.machine.specs.Machine.{session_answers}
+use Rattle.replay.specs.Resuming.{AreCheckpointsOf, IsAt, left_out_step}
 use Rattle.replay.specs.Ring.{Each, AddsEach}
 use Rattle.replay.proofs.run.resume.Given as goal
 
 abbrev pub invariant-loop-n : goal.invariant-loop-n
 invariant-loop-n l = record {
-  at : after (session_answers l.session) l.n ≡ Some l.state.state;
+  run : IsAt l.session l.n l.state l.checkpoints.notes;
   within : (l.from ≤ l.n) × (l.n ≤ l.limit);
   meter : l.meter + l.from ≡ l.initial.meter + l.n;
-  bound : IsBound l.session l.state;
-  looks : l.n ≤ l.checkpoints.notes.looks.seen → AllNoted l.checkpoints.notes.looks l.state.looked;
-  noted : IsOk l.checkpoints.notes.noted → l.n ≤ l.checkpoints.notes.looks.seen;
   sound : AreCheckpointsOf (session_answers l.session) l.checkpoints;
   spacing : l.checkpoints.spacing ≡ l.initial.checkpoints.spacing;
   capacity : l.checkpoints.ring.capacity ≡ l.initial.checkpoints.ring.capacity;
