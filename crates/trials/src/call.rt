@@ -5,7 +5,7 @@ ghost use Rattle.machine.specs.Runs.{IsAtCall, state_of};
 ghost use Rattle.trials.specs.Accesses.{read_cells, written_cells};
 ghost use Rattle.trials.specs.Ranges.{passes_cells};
 
-use crate::ranges::{CellRange, reads_pass, writes_pass};
+use crate::ranges::{CellRange, is_any_looked, is_any_written};
 use machine::{Run, Session, Trials, next_cells};
 use std::alloc::AllocError;
 
@@ -15,6 +15,7 @@ use std::alloc::AllocError;
 /// # Errors
 ///
 /// `Err` means out of memory.
+#[tactic(auto, using(crate::proofs::RangeLemmas::passes))]
 pub fn call_passes(
     run: &Run<'_>,
     session: &Session,
@@ -28,7 +29,8 @@ pub fn call_passes(
         ≡ (passes_cells writes (written_cells s w) && passes_cells reads (read_cells s w))) }
 {
     let tried = next_cells(run, session, trials)?;
-    let passes = writes_pass(&tried, writes) && reads_pass(&tried, reads);
+    let passes = writes.is_none_or(|range| is_any_written(&tried, range))
+        && reads.is_none_or(|range| is_any_looked(&tried, range));
     trials.keep(tried);
     Ok(passes)
 }
