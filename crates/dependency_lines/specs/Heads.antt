@@ -1,5 +1,5 @@
 -- The beginning of a line of a listing, and a line with one step. (This project's profile.)
-use Rattle.std.specs.Prelude.{ℕ, if◌then◌else◌, List, [], ◌++◌, Option, Some, None, codes}
+use Rattle.std.specs.Prelude.{ℕ, if◌then◌else◌, List, [], ◌++◌, Option, Some, None}
 use Rattle.filenames.specs.Names.{Key, display_text, is_sayable}
 use Rattle.report_lines.specs.KeyDigits.{key_digits}
 use Rattle.dependency_lines.specs.Words.{step_end}

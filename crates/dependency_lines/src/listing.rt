@@ -124,10 +124,7 @@ fn push_script<X: Text>(text: &mut X, joining: Joining, session: &Session, looks
 fn first_step(looks: &FirstLooks, from: usize) -> Option<u64>
     ensures { result ≡ texts.first_row_step looks.now from }
 {
-    match next_row(looks.offsets(), Joining::Joined, from) {
-        Some(row) => Some(row.step),
-        None => None,
-    }
+    next_row(looks.offsets(), Joining::Joined, from).map(|row| row.step)
 }
 
 // Appends the lines of files by their names.

@@ -23,7 +23,7 @@ fn push_place<X: Text>(text: &mut X, format: IndexFormat, index: usize)
     ensures { X.pushed text.new ≡ more (X.pushed text.old) (texts.place_text format index) }
 {
     match format {
-        IndexFormat::Cell => text.push(&word_digits((index % 65_536) as u16)),
+        IndexFormat::Cell => text.push(word_digits((index % 65_536) as u16).as_bytes()),
         IndexFormat::Number => text.push(Buffer::new().format(index).as_bytes()),
     }
 }

@@ -16,8 +16,8 @@ fn push_shown_byte(text: &mut Vec<u8>, byte: u8) -> Result<(), AllocError>
         b'\n' => text.extend_from_slice(b"\\n"),
         b'\t' => text.extend_from_slice(b"\\t"),
         0..=0x1f | 0x7f => {
-            let [high, low] = byte_digits(byte);
-            text.extend_from_slice(&[b'\\', b'x', high, low])
+            text.extend_from_slice(b"\\x")?;
+            text.extend_from_slice(byte_digits(byte).as_bytes())
         }
         _ => Ok(text.push(byte)?),
     }

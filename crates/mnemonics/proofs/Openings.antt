@@ -1,20 +1,9 @@
--- The texts before the operand are at most 8 bytes long, and each is in the table at its opcode.
-use Rattle.std.proofs.Common.{◌≡◌, ◌<◌, ◌≤◌, ℕ, ◌+◌, Bool, true, List, [], map, length, get_or, Bor, refl, sym, ap, ◌∙◌, nat_le, arith}
+-- Each text before the operand is in the table at its opcode.
+use Rattle.std.proofs.Common.{◌≡◌, ◌<◌, ℕ, ◌+◌, List, [], map, get_or, Bor, sym, ap, ◌∙◌, arith}
 use Rattle.std.proofs.Math.ListN.{get_or-map}
 use Rattle.std.proofs.lemmas.List.FromFn.{get_or-map-range_with_len}
-use Rattle.std.proofs.lemmas.Bool.{agree_below, agree_below_at, leb-true}
 use Rattle.i8080.specs.Opcodes.{decoded}
 use Rattle.mnemonics.specs.Mnemonics.{opening_text, openings}
-
-abbrev is_short : ℕ → Bool
-is_short opcode = nat_le (length (opening_text (decoded opcode))) 8
-
-all_short : agree_below is_short (λ _. true) 256 ≡ true
-unfolding decoded
-all_short = refl
-
-pub short : (text : List ℕ) (opcode : ℕ) → text ≡ opening_text (decoded opcode) → opcode < 256 → length text ≤ 8
-short text opcode e below = rw e (leb-true _ _ (agree_below_at is_short (λ _. true) 256 opcode all_short below))
 
 pub entry_at : (table : List (Bor (List ℕ))) (other : Bor (List ℕ)) (index opcode : ℕ) → map (λ t. t.now) table ≡ openings → other.now ≡ []
     → index ≡ opcode → opcode < 256 → (get_or table index other).now ≡ opening_text (decoded opcode)

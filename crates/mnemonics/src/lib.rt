@@ -5,4 +5,4 @@
 
 mod text;
 
-pub use text::{byte_count, mnemonics_differ, operand_count, push_instruction};
+pub use text::{byte_count, byte_digits, mnemonics_differ, operand_count, push_instruction};

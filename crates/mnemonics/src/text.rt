@@ -1,16 +1,17 @@
 // The text of an instruction, from a table by its opcode and the digits of its operand.
 
-ghost use Rattle.std.specs.Prelude.{◌≡◌, ◌+◌, ◌<◌, ◌≤◌, ◌++◌, [], ◌∷◌, length, map, slice_index, Some};
-ghost use Rattle.arrayvec.specs.ArrayString.{array_string_len};
+ghost use Rattle.std.specs.Prelude.{◌≡◌, ◌<◌, ◌≤◌, map, slice_index, Some};
 ghost use Rattle.hex.specs.Hex.{upper_digits};
 ghost use Rattle.i8080.specs.Opcodes.{decoded};
 ghost use Rattle.i8080.specs.declared.opcode.Op.{Op};
 ghost use Rattle.mnemonics.specs.Mnemonics as spec;
 ghost use Rattle.mnemonics.specs.Mnemonics.{instruction_text, mnemonic, named};
+ghost use Rattle.streams.specs.Pushing.{more};
 
 use arrayvec::ArrayString;
 use i8080::decode;
 use i8080::opcode::{Op, Source};
+use streams::Text;
 
 // The text before the operand for each opcode, in order.
 const OPENINGS: [&str; 256] = [
@@ -42,11 +43,10 @@ const OPENINGS: [&str; 256] = [
     "PUSH PSW", "ORI ", "RST 6", "RM", "SPHL", "JM ", "EI", "CM ", "DB ", "CPI ", "RST 7",
 ];
 
-/// Returns the text at this opcode in a table of the texts before the operand.
+// Returns the text at this opcode in a table of the texts before the operand.
 fn entry(table: &'static [&'static str; 256], opcode: u8) -> &'static str
     requires { map (λ t. t.now) table.now ≡ spec.openings }
-    ensures text { result.now ≡ spec.opening_text (decoded opcode) }
-    ensures len { length result.now ≤ 8 }
+    ensures { result.now ≡ spec.opening_text (decoded opcode) }
 {
     table[usize::from(opcode)]
 }
@@ -75,7 +75,7 @@ pub fn byte_count(opcode: u8) -> usize
     }
 }
 
-/// Returns a digit in upper case.
+// Returns a digit in upper case.
 fn digit(value: u8) -> char
     requires { value < 16 }
     ensures value { result ≡ slice_index upper_digits value }
@@ -84,62 +84,51 @@ fn digit(value: u8) -> char
     char::from(b"0123456789ABCDEF"[usize::from(value)])
 }
 
-/// Appends the two digits of a byte.
-fn push_digits<const N: usize>(text: &mut ArrayString<N>, byte: u8)
-    requires { array_string_len text.old + 2 ≤ N }
-    ensures digits { text.new.bytes ≡ text.old.bytes ++ spec.digits byte }
-    ensures len { array_string_len text.new ≡ array_string_len text.old + 2 }
+/// Returns the two digits of a byte, in upper case.
+#[tactic(auto, unfolding(hex::specs::Hex::encode_with))]
+pub fn byte_digits(byte: u8) -> ArrayString<2>
+    ensures { result.bytes ≡ spec.digits byte }
 {
-    text.push(digit(byte / 16));
-    text.push(digit(byte % 16));
+    let mut digits = ArrayString::new();
+    digits.push(digit(byte / 16));
+    digits.push(digit(byte % 16));
+    digits
 }
 
-/// Appends the digits of the first byte of a number, with a 0 before a letter.
-fn push_first_digits<const N: usize>(text: &mut ArrayString<N>, byte: u8)
-    requires { array_string_len text.old + 3 ≤ N }
-    ensures digits { text.new.bytes ≡ text.old.bytes ++ spec.first_digits byte }
-    ensures len { array_string_len text.new ≤ array_string_len text.old + 3 }
+// Appends the digits of the first byte of a number, with a 0 before a letter.
+fn push_first_digits<X: Text>(text: &mut X, byte: u8)
+    ensures { X.pushed text.new ≡ more (X.pushed text.old) (spec.first_digits byte) }
 {
     if byte >= 0xa0 {
-        text.push_str("0");
+        text.push(b"0");
     }
-    push_digits(text, byte);
+    text.push(byte_digits(byte).as_bytes())
 }
 
-/// Appends a byte as a number.
-fn push_literal<const N: usize>(text: &mut ArrayString<N>, byte: u8)
-    requires { array_string_len text.old + 4 ≤ N }
-    ensures number { text.new.bytes ≡ text.old.bytes ++ spec.byte_text byte }
-    ensures len { array_string_len text.new ≤ array_string_len text.old + 4 }
+// Appends a byte as a number.
+fn push_literal<X: Text>(text: &mut X, byte: u8)
+    ensures { X.pushed text.new ≡ more (X.pushed text.old) (spec.byte_text byte) }
 {
     push_first_digits(text, byte);
-    text.push_str("H");
+    text.push(b"H")
 }
 
-/// Appends a word as a number.
-fn push_word<const N: usize>(text: &mut ArrayString<N>, low: u8, high: u8)
-    requires { array_string_len text.old + 6 ≤ N }
-    ensures number { text.new.bytes ≡ text.old.bytes ++ spec.word_text low high }
-    ensures len { array_string_len text.new ≤ array_string_len text.old + 6 }
+// Appends a word as a number.
+fn push_word<X: Text>(text: &mut X, low: u8, high: u8)
+    ensures { X.pushed text.new ≡ more (X.pushed text.old) (spec.word_text low high) }
 {
     push_first_digits(text, high);
-    push_digits(text, low);
-    text.push_str("H");
+    text.push(byte_digits(low).as_bytes());
+    text.push(b"H")
 }
 
 /// Appends the instruction that begins with these bytes, as `JMP 0100H`, or `DB` and the first byte if that is undefined.
 /// The notation is Intel's. [8080 manual 1975, chapter 4, instruction set]
-pub fn push_instruction<const N: usize>(
-    text: &mut ArrayString<N>,
-    opcode: u8,
-    second: u8,
-    third: u8,
-)
-    requires { array_string_len text.old + 16 ≤ N }
-    ensures text { text.new.bytes ≡ text.old.bytes ++ instruction_text (decoded opcode) opcode second third }
-    ensures len { array_string_len text.new ≤ array_string_len text.old + 16 }
+pub fn push_instruction<X: Text>(text: &mut X, opcode: u8, second: u8, third: u8)
+    ensures { X.pushed text.new
+        ≡ more (X.pushed text.old) (instruction_text (decoded opcode) opcode second third) }
 {
-    text.push_str(entry(&OPENINGS, opcode));
+    text.push(entry(&OPENINGS, opcode).as_bytes());
     match decode(opcode) {
         None => push_literal(text, opcode),
         Some(op) => match operand_count(op) {

@@ -1,2 +1,1 @@
 pub mod ReportPieces
-mod GrowingText

@@ -48,9 +48,12 @@ regs_text r =
     ++ codes " H=" ++ byte_text r.h ++ codes " L=" ++ byte_text r.l
     ++ codes " SP=" ++ word_text r.sp ++ codes " PC=" ++ word_text r.pc
 
+abbrev pub steps_line : ℕ → List ℕ
+steps_line steps = line (codes "steps " ++ decimal steps)
+
 -- Why a run stopped, after how many steps, and with which registers.
 abbrev pub report_head : Cause → ℕ → Regs → List ℕ
-report_head cause steps regs = stop_line cause ++ line (codes "steps " ++ decimal steps) ++ line (regs_text regs)
+report_head cause steps regs = stop_line cause ++ steps_line steps ++ line (regs_text regs)
 
 -- The line of the console text.
 abbrev pub text_line : List ℕ → List ℕ

@@ -1,63 +1,26 @@
 // The first lines of a report, and the line of its console text.
 
-ghost use Rattle.std.specs.Prelude.{◌≡◌, ◌+◌, ◌<◌, ◌≤◌, ◌++◌, length, slice_index};
-ghost use Rattle.arrayvec.specs.ArrayString.{array_string_len};
-ghost use Rattle.hex.specs.Hex.{upper_digits};
+ghost use Rattle.std.specs.Prelude.{◌≡◌};
 ghost use Rattle.report_lines.specs.FirstLines as texts;
-ghost use Rattle.report_lines.specs.FirstLines.{byte_text, word_text, regs_text, text_line};
+ghost use Rattle.report_lines.specs.FirstLines.{regs_text, text_line, word_text};
 ghost use Rattle.streams.specs.Pushing.{more};
 
 use crate::hex_digits::push_hex;
 use arrayvec::ArrayString;
 use itoa::Buffer;
 use machine::{Cause, Regs};
+use mnemonics::byte_digits;
 use streams::Text;
-
-// Returns a digit in upper case.
-fn digit(value: u8) -> u8
-    requires { value < 16 }
-    ensures value { result ≡ slice_index upper_digits value }
-    ensures ascii { result < 128 }
-{
-    b"0123456789ABCDEF"[usize::from(value)]
-}
-
-/// Returns the two digits of a byte.
-#[tactic(auto, unfolding(hex::specs::Hex::encode_with))]
-pub fn byte_digits(value: u8) -> [u8; 2]
-    ensures { result ≡ byte_text value }
-{
-    [digit(value / 16), digit(value % 16)]
-}
 
 /// Returns the four digits of a word, the high byte first.
 #[tactic(auto, unfolding(hex::specs::Hex::encode_with))]
-pub fn word_digits(value: u16) -> [u8; 4]
-    ensures { result ≡ word_text value }
+pub fn word_digits(value: u16) -> ArrayString<4>
+    ensures { result.bytes ≡ word_text value }
 {
-    let [a, b] = byte_digits((value / 256) as u8);
-    let [c, d] = byte_digits((value % 256) as u8);
-    [a, b, c, d]
-}
-
-/// Appends the two digits of a byte.
-pub fn push_byte<const N: usize>(text: &mut ArrayString<N>, value: u8)
-    requires { array_string_len text.old + 2 ≤ N }
-    ensures digits { text.new.bytes ≡ text.old.bytes ++ byte_text value }
-    ensures len { array_string_len text.new ≡ array_string_len text.old + 2 }
-{
-    text.push(char::from(digit(value / 16)));
-    text.push(char::from(digit(value % 16)));
-}
-
-/// Appends the four digits of a word, the high byte first.
-pub fn push_word<const N: usize>(text: &mut ArrayString<N>, value: u16)
-    requires { array_string_len text.old + 4 ≤ N }
-    ensures digits { text.new.bytes ≡ text.old.bytes ++ word_text value }
-    ensures len { array_string_len text.new ≡ array_string_len text.old + 4 }
-{
-    push_byte(text, (value / 256) as u8);
-    push_byte(text, (value % 256) as u8);
+    let mut digits = ArrayString::new();
+    digits.push_str(byte_digits((value / 256) as u8).as_str());
+    digits.push_str(byte_digits((value % 256) as u8).as_str());
+    digits
 }
 
 // Returns the name of a cause with its value, as a report has it: a byte or an address in upper-case hexadecimal digits, the number
@@ -72,11 +35,11 @@ fn cause_words(cause: Cause) -> ArrayString<64>
         Cause::Limit => text.push_str("Limit"),
         Cause::Undefined(value) => {
             text.push_str("Undefined ");
-            push_byte(&mut text, value);
+            text.push_str(byte_digits(value).as_str());
         }
         Cause::SystemArea(address) => {
             text.push_str("SystemArea ");
-            push_word(&mut text, address);
+            text.push_str(word_digits(address).as_str());
         }
         Cause::ConsoleExhausted => text.push_str("ConsoleExhausted"),
         Cause::NoDollar => text.push_str("NoDollar"),
@@ -103,42 +66,43 @@ pub fn stop_line(cause: Cause) -> ArrayString<80>
     text
 }
 
-/// Appends a name and the two digits of a byte.
-fn push_named_byte(text: &mut ArrayString<256>, name: &str, value: u8)
-    requires { array_string_len text.old + length name.now + 2 ≤ 256 }
-    ensures digits { text.new.bytes ≡ text.old.bytes ++ name.now ++ byte_text value }
-    ensures len { array_string_len text.new ≡ array_string_len text.old + length name.now + 2 }
+/// Returns the registers with their names, without a line end.
+pub fn regs_words(regs: Regs) -> ArrayString<64>
+    ensures { result.bytes ≡ regs_text regs }
 {
-    text.push_str(name);
-    push_byte(text, value);
+    let mut text = ArrayString::new();
+    text.push_str("regs A=");
+    text.push_str(byte_digits(regs.a).as_str());
+    text.push_str(" F=");
+    text.push_str(byte_digits(regs.flags.byte()).as_str());
+    text.push_str(" B=");
+    text.push_str(byte_digits(regs.b).as_str());
+    text.push_str(" C=");
+    text.push_str(byte_digits(regs.c).as_str());
+    text.push_str(" D=");
+    text.push_str(byte_digits(regs.d).as_str());
+    text.push_str(" E=");
+    text.push_str(byte_digits(regs.e).as_str());
+    text.push_str(" H=");
+    text.push_str(byte_digits(regs.h).as_str());
+    text.push_str(" L=");
+    text.push_str(byte_digits(regs.l).as_str());
+    text.push_str(" SP=");
+    text.push_str(word_digits(regs.sp).as_str());
+    text.push_str(" PC=");
+    text.push_str(word_digits(regs.pc).as_str());
+    text
 }
 
-/// Appends a name and the four digits of a word.
-fn push_named_word(text: &mut ArrayString<256>, name: &str, value: u16)
-    requires { array_string_len text.old + length name.now + 4 ≤ 256 }
-    ensures digits { text.new.bytes ≡ text.old.bytes ++ name.now ++ word_text value }
-    ensures len { array_string_len text.new ≡ array_string_len text.old + length name.now + 4 }
+// Returns the line of the steps.
+fn steps_line(steps: u64) -> ArrayString<32>
+    ensures { result.bytes ≡ texts.steps_line steps }
 {
-    text.push_str(name);
-    push_word(text, value);
-}
-
-/// Appends the registers with their names, without a line end.
-pub fn push_regs(text: &mut ArrayString<256>, regs: Regs)
-    requires { array_string_len text.old ≤ 128 }
-    ensures regs { text.new.bytes ≡ text.old.bytes ++ regs_text regs }
-    ensures len { array_string_len text.new ≤ array_string_len text.old + 62 }
-{
-    push_named_byte(text, "regs A=", regs.a);
-    push_named_byte(text, " F=", regs.flags.byte());
-    push_named_byte(text, " B=", regs.b);
-    push_named_byte(text, " C=", regs.c);
-    push_named_byte(text, " D=", regs.d);
-    push_named_byte(text, " E=", regs.e);
-    push_named_byte(text, " H=", regs.h);
-    push_named_byte(text, " L=", regs.l);
-    push_named_word(text, " SP=", regs.sp);
-    push_named_word(text, " PC=", regs.pc);
+    let mut text = ArrayString::new();
+    text.push_str("steps ");
+    text.push_str(Buffer::new().format(steps));
+    text.push_str("\n");
+    text
 }
 
 /// Returns the first three lines of a report: `stop`, `steps` and `regs`.
@@ -147,10 +111,8 @@ pub fn report_head(cause: Cause, steps: u64, regs: Regs) -> ArrayString<256>
 {
     let mut text = ArrayString::new();
     text.push_str(stop_line(cause).as_str());
-    text.push_str("steps ");
-    text.push_str(Buffer::new().format(steps));
-    text.push_str("\n");
-    push_regs(&mut text, regs);
+    text.push_str(steps_line(steps).as_str());
+    text.push_str(regs_words(regs).as_str());
     text.push_str("\n");
     text
 }

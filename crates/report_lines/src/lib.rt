@@ -9,7 +9,6 @@ mod first_lines;
 mod hex_digits;
 
 pub use changed_lines::{FileFilter, push_changed_files, push_named};
-pub use first_lines::{
-    byte_digits, push_byte, push_regs, push_text, push_word, report_head, stop_line, word_digits,
-};
+pub use first_lines::{push_text, regs_words, report_head, stop_line, word_digits};
 pub use hex_digits::{push_hex, push_key};
+pub use mnemonics::byte_digits;

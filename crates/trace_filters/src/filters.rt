@@ -2,7 +2,6 @@
 
 ghost use Rattle.std.specs.Prelude.{◌≡◌, ◌≤◌, ◌&&◌, ◌||◌, ◌∷◌, ◌++◌, IfOk, IsOk, OnErr, None, true};
 ghost use Rattle.std.specs.List.{list_any};
-ghost use Rattle.filenames.specs.Drives.{drive_number};
 ghost use Rattle.machine.specs.Runs.{state_of};
 ghost use Rattle.trials.specs.Accesses.{read_cells, written_cells};
 ghost use Rattle.trace_lines.specs.Rows.{row};
@@ -16,7 +15,7 @@ use directory::is_match;
 use filenames::{Drive, Fcb, Key};
 use machine::{Run, Session};
 use std::alloc::AllocError;
-use trace_lines::{Argument, Code, Row, argument_of, block_at};
+use trace_lines::{Argument, CellRow, argument_of, block_at, key_on, read_rows, written_row};
 use trials::{CellRange, Trials, call_passes};
 
 // Returns whether a cell is in a range.
@@ -26,39 +25,26 @@ fn is_in_range(range: CellRange, at: u16) -> bool
     range.first <= at && at <= range.last
 }
 
-// Returns whether one of at most three cells in a row is in a range.
-fn touches(range: CellRange, at: u16, count: u16) -> bool
-    requires { count ≤ 3 }
-    ensures { result ≡ list_any (is_in_range range) (row at count) }
+// Returns whether a cell of a row is in a range.
+fn touches(range: CellRange, cells: CellRow) -> bool
+    ensures { result ≡ list_any (is_in_range range) (row cells.at cells.count) }
 {
-    let next = at.wrapping_add(1);
-    match count {
+    let next = cells.at.wrapping_add(1);
+    match cells.count {
         0 => false,
-        1 => is_in_range(range, at),
-        2 => is_in_range(range, at) || is_in_range(range, next),
-        _ => is_in_range(range, at)
+        1 => is_in_range(range, cells.at),
+        2 => is_in_range(range, cells.at) || is_in_range(range, next),
+        _ => is_in_range(range, cells.at)
             || is_in_range(range, next)
             || is_in_range(range, next.wrapping_add(1)),
     }
-}
-
-// Returns the key of eleven bytes on a drive.
-fn key_on(drive: Drive, name: [u8; 11]) -> Key
-    ensures { result ≡ drive_number drive ∷ name }
-{
-    let mut key = [drive.number(); 12];
-    key[1..].copy_from_slice(&name);
-    key
 }
 
 // Returns whether a name in a control block is the file's, or a pattern that matches it.
 fn names(drive: Option<Drive>, name: [u8; 11], key: &Key) -> bool
     ensures { result ≡ names drive name key.now }
 {
-    match drive {
-        None => false,
-        Some(drive) => is_match(&key_on(drive, name), key),
-    }
+    drive.is_some_and(|drive| is_match(&key_on(drive.number(), name), key))
 }
 
 // Returns whether a call with a control block names a file.
@@ -86,10 +72,7 @@ fn call_names(run: &Run<'_>, key: &Key) -> bool
 fn passes_address(at: Option<u16>, pc: u16) -> bool
     ensures { result ≡ passes_address at pc }
 {
-    match at {
-        None => true,
-        Some(at) => pc == at,
-    }
+    at.is_none_or(|at| pc == at)
 }
 
 // Returns whether the next step passes the filter of files.
@@ -132,30 +115,14 @@ fn instruction_passes(run: &Run<'_>, choice: &Choice) -> bool
         result ≡ (passes_cells choice.now.writes (written_cells s w)
         && passes_cells choice.now.reads (read_cells s w)) }
 {
-    let code = Code::at(run);
-    writes_pass(choice.writes, code.written(run))
-        && reads_pass(choice.reads, run.regs().pc, code.count(), code.read(run))
-}
-
-// Returns whether a row of written cells passes the filter.
-fn writes_pass(writes: Option<CellRange>, cells: Row) -> bool
-    ensures { result ≡ passes_cells writes (row cells.at cells.count) }
-{
-    match writes {
-        None => true,
-        Some(range) => touches(range, cells.at, cells.count),
+    let cells = written_row(run);
+    if !choice.writes.is_none_or(|range| touches(range, cells)) {
+        return false;
     }
-}
-
-// Returns whether an instruction's bytes and a row of cells pass the filter of cells that are read.
-fn reads_pass(reads: Option<CellRange>, pc: u16, count: u16, cells: Row) -> bool
-    requires { count ≤ 3 }
-    ensures { result ≡ passes_cells reads (row pc count ++ row cells.at cells.count) }
-{
-    match reads {
-        None => true,
-        Some(range) => touches(range, pc, count) || touches(range, cells.at, cells.count),
-    }
+    let (own, others) = read_rows(run);
+    choice
+        .reads
+        .is_none_or(|range| touches(range, own) || touches(range, others))
 }
 
 /// Returns whether the next step has a line.

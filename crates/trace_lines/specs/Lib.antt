@@ -3,4 +3,3 @@ pub mod CallLines
 pub mod Texts
 pub mod Rows
 pub mod StepLines
-pub mod Codes

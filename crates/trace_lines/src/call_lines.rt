@@ -41,7 +41,7 @@ fn push_record<X: Text>(text: &mut X, run: &Run<'_>, number: u32)
     } else {
         b" from "
     });
-    text.push(&word_digits(run.buffer()))
+    text.push(word_digits(run.buffer()).as_bytes())
 }
 
 // Returns the random record number, with its overflow byte.
@@ -110,11 +110,11 @@ fn push_argument<X: Text>(text: &mut X, run: &Run<'_>)
         Argument::Nothing => (),
         Argument::Byte => {
             text.push(b" ");
-            text.push(&byte_digits(regs.e))
+            text.push(byte_digits(regs.e).as_bytes())
         }
         Argument::Word => {
             text.push(b" ");
-            text.push(&word_digits(word_of(regs.e, regs.d)))
+            text.push(word_digits(word_of(regs.e, regs.d)).as_bytes())
         }
         Argument::File | Argument::Renaming | Argument::NextRecord | Argument::ChosenRecord => {
             push_block(text, run, argument)
@@ -146,11 +146,11 @@ fn push_returned<X: Text>(text: &mut X, number: u8, regs: Regs)
         Returned::Nothing => (),
         Returned::Byte => {
             text.push(b" = ");
-            text.push(&byte_digits(regs.a))
+            text.push(byte_digits(regs.a).as_bytes())
         }
         Returned::Word => {
             text.push(b" = ");
-            text.push(&word_digits(word_of(regs.l, regs.h)))
+            text.push(word_digits(word_of(regs.l, regs.h)).as_bytes())
         }
     }
 }

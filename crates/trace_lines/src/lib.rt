@@ -11,7 +11,8 @@ mod file_texts;
 mod forms;
 mod step_lines;
 
-pub use accesses::Row;
+pub use accesses::{CellRow, read_rows, written_row};
 pub use call_lines::{block_at, push_call_end, push_call_start};
+pub use file_texts::key_on;
 pub use forms::{Argument, argument_of};
-pub use step_lines::{Code, push_changes, step_start};
+pub use step_lines::{bytes_of, push_changes, push_step_start};

@@ -2,7 +2,6 @@
 use Rattle.std.proofs.Common.{◌≡◌, ℕ, Bool, true, false, ◌+◌, ◌-◌, ◌<◌, List, ◌++◌, length, drop, Option, Some, None, Result, Ok, Err, IfOk, unwrap_or, refl, sym, ◌∙◌, ap, arith}
 use Rattle.std.specs.List.{concat}
 use Rattle.interaction_trees.specs.Run.{RunResult}
-use Rattle.interaction_trees.specs.Steps as steps
 use Rattle.interaction_trees.proofs.RunLemmas.{run_limited, run_stops}
 use Rattle.console_calls.specs.declared.cause.Cause.{Cause}
 use Rattle.console_calls.specs.declared.cause.Cause.TheVariants.{Limit}
@@ -14,7 +13,7 @@ use Rattle.report_lines.specs.FirstLines.{stop_line}
 use Rattle.streams.specs.Pushing.{Pushed, as_count, more}
 use Rattle.streams.proofs.Pushes.{more_more}
 use Rattle.tracing.specs.Trace.{all_lines, last_lines, lines, trace_text}
-use Rattle.tracing.specs.Walks.{IsEnd, Walked, kept_text, lines_left, text_after, walked, with_lines}
+use Rattle.tracing.specs.Walks.{EndsAt, Walked, kept_text, lines_left, text_after, walked, with_lines}
 use Rattle.trace_filters.specs.declared.choice.Choice.{Choice}
 
 -- ---- why a run ended
@@ -35,7 +34,7 @@ module _ (r : RunView) (at : plain_after r.session r.step ≡ Some (state_of r))
   pub limit_is : (s : Session) → r.session ≡ s → r.step ≡ s.limit → Limit ≡ (plain_run s).cause
   limit_is s same e = limit_cause (e ∙ ap (λ (x : Session). x.limit) (sym same)) ∙ ap (λ (x : Session). (plain_run x).cause) same
 
-  pub cause_is : (s : Session) → r.session ≡ s → (stop : Option Cause) → IsEnd r stop → unwrap_or stop Limit ≡ (plain_run s).cause
+  pub cause_is : (s : Session) → r.session ≡ s → (stop : Option Cause) → EndsAt r r.session.limit stop → unwrap_or stop Limit ≡ (plain_run s).cause
   cause_is s same None end = limit_cause end ∙ ap (λ (x : Session). (plain_run x).cause) same
   cause_is s same (Some cause) end = stop_cause cause end.0 end.1 ∙ ap (λ (x : Session). (plain_run x).cause) same
 

@@ -18,7 +18,7 @@ use Rattle.machine.proofs.PlainViews.{plain_at}
 use Rattle.trace_filters.specs.declared.choice.Choice.{Choice}
 use Rattle.streams.specs.Pushing.{PushesPart, PushesText, more}
 use Rattle.streams.proofs.Pushes.{no_part, part_longer, part_pushed, part_then}
-use Rattle.tracing.specs.Walks.{EndsAt, GoesBy, IsEnd, IsWithin, WalksOn, Walked, kept_line, kept_text, lines_left, walked, with_lines}
+use Rattle.tracing.specs.Walks.{EndsAt, GoesBy, IsWithin, WalksOn, Walked, kept_line, kept_text, lines_left, walked, with_lines}
 use Rattle.trace_filters.specs.Chosen.{has_line, is_call, is_chosen}
 use Rattle.trace_lines.specs.CallLines.{call_line}
 use Rattle.trace_lines.specs.StepLines.{is_instruction, step_line}
@@ -219,13 +219,9 @@ module _ (c : Choice) (old new : RunView) (same : new.session ≡ old.session) (
       ∙ stopped_past c new.session (new.session.limit - new.step) new.step (state_of new) cause at
       (ap (λ (s : Session). has_line c s new.step (state_of new)) same ∙ silent) here
 
--- A step at another PC is no call.
-pub is_no_call : (w : PlainState) → (w.core.regs.pc ≡ 0xfe06 → ⊥) → is_call w ≡ false
-is_no_call w apart = ne_eqb w.core.regs.pc 0xfe06 apart
-
 -- No step before a call has a line, if instructions have none.
 pub calls_alone : (c : Choice) (s : Session) (from upto : ℕ) → c.instructions ≡ false → MakesNoCall s from upto → HasNoLine c s from upto
-calls_alone c s from upto off calls i w low high at = silent c s i w off (is_no_call w (calls i w low high at))
+calls_alone c s from upto off calls i w low high at = silent c s i w off (ne_eqb _ _ (calls i w low high at))
 
 -- ---- the first and the last steps
 
@@ -290,7 +286,7 @@ pub nothing_kept : (skip : ℕ) → kept_text skip [] ≡ []
 nothing_kept skip = ap concat (drop_none skip)
 
 -- No line is left at the end of a run.
-pub end_left : (c : Choice) (r : RunView) (stop : Option Cause) → IsEnd r stop → lines_left c r stop ≡ []
+pub end_left : (c : Choice) (r : RunView) (stop : Option Cause) → EndsAt r r.session.limit stop → lines_left c r stop ≡ []
 end_left c r None here =
     let over : r.session.limit - r.step ≡ 0 = omega (arith, here) in
     ap (lines c r.session r.step) over ∙ no_steps c r.session r.step
@@ -298,13 +294,13 @@ end_left c r (Some cause) here = refl
 
 -- A run that was not stopped before the limit, or stopped there, is at its end.
 pub ended : (r : RunView) (limit : ℕ) (result : Result (Option Cause) AllocError) → r.session.limit ≡ limit → IfOk result (EndsBy r limit)
-    → IfOk result (λ stop. IfSome stop (StopsHere r)) → IfOk result (IsEnd r)
+    → IfOk result (λ stop. IfSome stop (StopsHere r)) → IfOk result (EndsAt r r.session.limit)
 ended r limit (Ok None) e ends stops = ends ∙ sym e
 ended r limit (Ok (Some cause)) e ends stops = (let low : r.step < limit = ends.0 in omega (arith, low, e), stops)
 ended r limit (Err x) e ends stops = tt
 
 -- No line is left, and none at the end.
-pub none_more : (c : Choice) (old r new : RunView) (before after : Walked) (result : Result (Option Cause) AllocError) → IfOk result (IsEnd new)
+pub none_more : (c : Choice) (old r new : RunView) (before after : Walked) (result : Result (Option Cause) AllocError) → IfOk result (EndsAt new new.session.limit)
     → lines_left c r None ≡ [] → with_lines after (lines_left c r None) ≡ with_lines before (lines_left c old None) → WalksOn c old before new after result
 none_more c old r new before after (Ok stop) end none e = ap (with_lines after) (end_left c new stop end ∙ sym none) ∙ e
 none_more c old r new before after (Err x) end none e =

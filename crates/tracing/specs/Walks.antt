@@ -50,11 +50,6 @@ abbrev pub GoesBy : RunView → RunView → ℕ → Option Cause → Type 0
 GoesBy old new end None = (old.step < new.step) × (new.step ≤ end)
 GoesBy old new end (Some cause) = (old.step ≤ new.step) × (new.step < new.session.limit) × StopsHere new cause
 
--- A run is at its limit, or where a stop follows before it.
-abbrev pub IsEnd : RunView → Option Cause → Type 0
-IsEnd r None = r.step ≡ r.session.limit
-IsEnd r (Some cause) = (r.step < r.session.limit) × StopsHere r cause
-
 -- A run is at most at this step, or where a stop follows.
 abbrev pub IsWithin : RunView → ℕ → Option Cause → Type 0
 IsWithin r end None = r.step ≤ end

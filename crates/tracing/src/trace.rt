@@ -6,7 +6,7 @@ ghost use Rattle.streams.specs.Pushing.{PushesUnless};
 ghost use Rattle.streams.specs.Streams.{WritesWhole};
 ghost use Rattle.faults.specs.Faults.{BreaksText};
 ghost use Rattle.tracing.specs.Trace.{all_lines, each_call, last_lines, trace_text};
-ghost use Rattle.tracing.specs.Walks.{IsEnd, text_after};
+ghost use Rattle.tracing.specs.Walks.{EndsAt, text_after};
 
 use crate::walk::{Walker, walk};
 use faults::Fault;
@@ -33,7 +33,7 @@ impl Writer for Nowhere {
 // Returns why a run ended that is at its limit, or where a stop follows.
 fn cause_of(run: &Run<'_>, session: &Session, stop: Option<Cause>) -> Cause
     requires session { run.now.session ≡ session.now }
-    requires end { IsEnd run.now stop }
+    requires end { EndsAt run.now run.now.session.limit stop }
     ensures { result ≡ (plain_run session.now).cause }
 {
     if run.step() == session.limit() {

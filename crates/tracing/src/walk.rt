@@ -10,13 +10,15 @@ ghost use Rattle.trace_lines.specs.CallLines.{call_line};
 ghost use Rattle.trace_lines.specs.StepLines.{is_instruction, step_line};
 ghost use Rattle.trace_filters.specs.Chosen.{is_call};
 ghost use Rattle.tracing.specs.Trace.{line_of};
-ghost use Rattle.tracing.specs.Walks.{EndsAt, GoesBy, IsEnd, WalksOn, kept_line, lines_left, walked};
+ghost use Rattle.tracing.specs.Walks.{EndsAt, GoesBy, WalksOn, kept_line, lines_left, walked};
 
 use machine::{Cause, Run, STEP_LIMIT, Session};
 use std::alloc::AllocError;
 use streams::{STEPS_UNTIL_TEXT, Text};
 use trace_filters::{Choice, Trials, has_line};
-use trace_lines::{Code, push_call_end, push_call_start, push_changes, step_start};
+use trace_lines::{
+    bytes_of, push_call_end, push_call_start, push_changes, push_step_start, written_row,
+};
 
 /// What a walk keeps from step to step.
 #[derive(Drop)]
@@ -76,17 +78,14 @@ fn push_instruction<X: Text>(run: &mut Run<'_>, text: &mut X) -> Result<Option<C
     ensures line { let w = state_of run.old in PushesText (X.pushed text.old) (X.pushed text.new)
         (step_line run.old.session run.old.step w (plain_outcome run.old.session w)) result }
 {
-    let code = Code::at(run);
-    let row = code.written(run);
-    let next = row.at.wrapping_add(1);
-    let old = [run.byte(row.at), run.byte(next)];
-    let mut line = step_start(run, code);
+    push_step_start(text, run);
+    let cells = written_row(run);
+    let old = bytes_of(run, cells);
     let stop = run.take_step()?;
     if stop.is_none() {
-        push_changes(&mut line, run, row, old);
+        push_changes(text, run, cells, old);
     }
-    line.push_str("\n");
-    text.push(line.as_bytes());
+    text.push(b"\n");
     Ok(stop)
 }
 
@@ -243,7 +242,8 @@ pub fn walk<X: Text>(
     requires session { run.old.session ≡ session.now }
     requires first { run.old.step ≡ 0 }
     ensures session { run.new.session ≡ run.old.session }
-    ensures ends { IfOk result (λ stop. X.failed text.new ≡ false → IsEnd run.new stop) }
+    ensures ends { let r = run.new in
+        IfOk result (λ stop. X.failed text.new ≡ false → EndsAt r r.session.limit stop) }
     ensures lines { WalksOn choice.now run.old (walked (X.pushed text.old) walker.old.skip)
         run.new (walked (X.pushed text.new) walker.new.skip) result }
 {

@@ -1,4 +1,4 @@
-use Rattle.std.proofs.Common.{◌≡◌, ◌-◌, ℕ, length, map}
+use Rattle.std.proofs.Common.{◌≡◌, ◌-◌, length, map}
 use Rattle.std.specs.List.{concat}
 use Rattle.streams.specs.Pushing.{more}
 use Rattle.dependencies.specs.Rows.{rows_from}

@@ -1,9 +1,10 @@
 use Rattle.std.proofs.Common.{ap, arith, subst, sym}
 use Rattle.machine.specs.Inputs.{Session}
 use Rattle.machine.specs.Runs.{MakesNoCall, state_of}
+use Rattle.std.proofs.lemmas.Bool.{ne_eqb}
 use Rattle.streams.proofs.Pushes.{no_part}
 use Rattle.tracing.specs.Walks.{walked, with_lines}
-use Rattle.tracing.proofs.Walking.{calls_alone, goes_past, is_no_call, silent, stops_past, walk_fails, walks_from}
+use Rattle.tracing.proofs.Walking.{calls_alone, goes_past, silent, stops_past, walk_fails, walks_from}
 use Rattle.tracing.proofs.walk.push_next.Goals as goal
 
 pub returns-in_err-cause-clause-lines : goal.returns-in_err-cause-clause-lines
@@ -18,7 +19,7 @@ returns-in-Some-clause-lines g c =
     let end = rw c.in-Some.is at c.in_ok-cause.ensures.ends in
     ap (with_lines (walked (g.X.Text.pushed c.args.text.now) c.args.walker.now.skip)) (sym
     (stops_past c.args.choice.now run new goes.session goes.low none c.requires.valid c.in-Some.cause c.args.end
-    (omega (arith, c.requires.below)) end.0 end.2 (silent c.args.choice.now run.session new.step (state_of new) c.if-choice.false (is_no_call (state_of new) end.1))))
+    (omega (arith, c.requires.below)) end.0 end.2 (silent c.args.choice.now run.session new.step (state_of new) c.if-choice.false (ne_eqb _ _ end.1))))
 
 pub returns-then-step-end-clause-lines : goal.returns-then-step-end-clause-lines
 returns-then-step-end-clause-lines g c =
