@@ -1,10 +1,10 @@
 // The choice of steps that the words describe.
 
-ghost use Rattle.std.specs.Prelude.{◌≡◌, IfErr, IfOk};
+ghost use Rattle.std.specs.Prelude.{◌≡◌, IfErr, IfOk, None, Some};
 ghost use Rattle.std.specs.Char.{is_ascii_hexdigit};
 ghost use Rattle.std.specs.List.{list_all};
 ghost use Rattle.trace_command.specs.Choices as texts;
-ghost use Rattle.trace_command.specs.Choices.{IsBadValueOf, IsChoiceOf, IsUnread, IsValue};
+ghost use Rattle.trace_command.specs.Choices.{IsBadValueOf, IsChoiceOf};
 
 use command_words::TraceWords;
 use filenames::{Key, Name};
@@ -134,57 +134,19 @@ fn file_of(text: &str) -> Option<Key>
     }
 }
 
-// Returns the value of the option for an address.
-fn address_value<'a>(text: Option<&'a str>) -> Result<Option<u16>, BadValue<'a>>
-    ensures value { IfOk result (IsValue texts.address_of text.entry) }
+// Returns the value that was read of an option's text, which must have one.
+fn value_of<'a, T: Drop>(
+    filter: Filter,
+    text: Option<&'a str>,
+    value: Option<T>,
+) -> Result<Option<T>, BadValue<'a>>
+    ensures value { IfOk result (λ v. (v ≡ value) × (v ≡ None → text.entry ≡ None)) }
     ensures bad { IfErr result
-        (λ bad. (bad.filter ≡ Filter.At) × IsUnread texts.address_of text.entry bad.value) }
+        (λ bad. (bad.filter ≡ filter) × (text.entry ≡ Some bad.value) × (value ≡ None)) }
 {
-    let Some(text) = text else {
-        return Ok(None);
-    };
-    match address_of(text) {
-        Some(address) => Ok(Some(address)),
-        None => Err(BadValue {
-            filter: Filter::At,
-            value: text,
-        }),
-    }
-}
-
-// Returns the value of an option for cells.
-fn cells_value<'a>(filter: Filter, text: Option<&'a str>) -> Result<Option<CellRange>, BadValue<'a>>
-    ensures value { IfOk result (IsValue texts.cells_of text.entry) }
-    ensures bad { IfErr result
-        (λ bad. (bad.filter ≡ filter) × IsUnread texts.cells_of text.entry bad.value) }
-{
-    let Some(text) = text else {
-        return Ok(None);
-    };
-    match cells_of(text) {
-        Some(cells) => Ok(Some(cells)),
-        None => Err(BadValue {
-            filter,
-            value: text,
-        }),
-    }
-}
-
-// Returns the value of the option for a file.
-fn file_value<'a>(text: Option<&'a str>) -> Result<Option<Key>, BadValue<'a>>
-    ensures value { IfOk result (IsValue texts.file_of text.entry) }
-    ensures bad { IfErr result
-        (λ bad. (bad.filter ≡ Filter.File) × IsUnread texts.file_of text.entry bad.value) }
-{
-    let Some(text) = text else {
-        return Ok(None);
-    };
-    match file_of(text) {
-        Some(key) => Ok(Some(key)),
-        None => Err(BadValue {
-            filter: Filter::File,
-            value: text,
-        }),
+    match (text, value) {
+        (Some(value), None) => Err(BadValue { filter, value }),
+        (_, value) => Ok(value),
     }
 }
 
@@ -201,10 +163,14 @@ pub fn read_choice<'a>(words: &TraceWords<'a>) -> Result<Choice, BadValue<'a>>
         instructions: words.steps,
         from: words.from.unwrap_or(0),
         to: words.to.unwrap_or(u64::MAX),
-        at: address_value(words.at)?,
-        writes: cells_value(Filter::Writes, words.writes)?,
-        reads: cells_value(Filter::Reads, words.reads)?,
-        file: file_value(words.file)?,
+        at: value_of(Filter::At, words.at, words.at.and_then(address_of))?,
+        writes: value_of(
+            Filter::Writes,
+            words.writes,
+            words.writes.and_then(cells_of),
+        )?,
+        reads: value_of(Filter::Reads, words.reads, words.reads.and_then(cells_of))?,
+        file: value_of(Filter::File, words.file, words.file.and_then(file_of))?,
         last: words.last,
     })
 }
