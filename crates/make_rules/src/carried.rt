@@ -18,12 +18,7 @@ fn has_meaning(byte: u8) -> bool
 fn any_has_meaning(path: &[u8]) -> bool
     ensures { result ≡ list_any texts.has_meaning path.now }
 {
-    for byte in path {
-        if has_meaning(*byte) {
-            return true;
-        }
-    }
-    false
+    path.iter().any(|byte| has_meaning(*byte))
 }
 
 // Returns whether a byte has a meaning at the end of a path.
@@ -37,10 +32,7 @@ fn has_meaning_last(byte: u8) -> bool
 fn ends_with_meaning(path: &[u8]) -> bool
     ensures { result ≡ texts.ends_with_meaning path.now }
 {
-    match path.last() {
-        Some(byte) => has_meaning_last(*byte),
-        None => false,
-    }
+    path.last().is_some_and(|byte| has_meaning_last(*byte))
 }
 
 /// Returns a path as make reads it: without each leading `./` and the slashes after it, but `./` if nothing else is left.
@@ -63,22 +55,16 @@ pub fn as_read(path: &[u8]) -> &[u8]
 fn has_home(path: &[u8]) -> bool
     ensures { result ≡ texts.has_home path.now }
 {
-    match path.first() {
-        Some(byte) => *byte == b'~',
-        None => false,
-    }
+    path.first().is_some_and(|byte| *byte == b'~')
 }
 
 // Returns whether these bytes are capitals.
 fn are_capitals(bytes: &[u8]) -> bool
     ensures { result ≡ list_all texts.is_capital bytes.now }
 {
-    for byte in bytes {
-        if !byte.is_ascii_uppercase() && *byte != b'_' {
-            return false;
-        }
-    }
-    true
+    bytes
+        .iter()
+        .all(|byte| byte.is_ascii_uppercase() || *byte == b'_')
 }
 
 // Returns whether a path is named as make's own targets are.

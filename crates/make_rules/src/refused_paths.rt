@@ -16,10 +16,7 @@ use std::alloc::{AllocError, Global};
 fn is_refused(path: Option<&str>) -> bool
     ensures { result ≡ texts.is_refused path.entry }
 {
-    match path {
-        Some(path) => !is_carried(path.as_bytes()),
-        None => false,
-    }
+    path.is_some_and(|path| !is_carried(path.as_bytes()))
 }
 
 // Returns the first of these paths that a rule cannot have.
