@@ -120,11 +120,10 @@ pub fn replay<R: Reader, W: Writer>(
     writer: &mut W,
 ) -> Result<Ending, ReplayFault>
     requires { meter.old ≡ 0 }
-    ensures ends { (bytes : List ℕ) × (done : List (List ℕ)) × (next : List (List ℕ))
-        × Consumes (R.input reader.old).left (R.input reader.new).left bytes
-        × AreLines (R.input reader.new).left bytes done next
-        × EndsReplay (R.input reader.new).left bytes done next
-        (replay_view runner.old.session (W.output writer.old))
+    ensures ends { let left = (R.input reader.new).left in
+        (bytes : List ℕ) × (done : List (List ℕ)) × (next : List (List ℕ))
+        × Consumes (R.input reader.old).left left bytes × AreLines left bytes done next
+        × EndsReplay left bytes done next (replay_view runner.old.session (W.output writer.old))
         (replay_view runner.new.session (W.output writer.new)) result
         × HasEffects runner.old meter.old bytes done runner.new meter.new result }
     ensures read { result ≡ Err ReplayFault.Read
