@@ -23,7 +23,7 @@ use Rattle.trace_lines.specs.declared.forms.Returned.TheVariants as returned
 abbrev pub address_in : Regs → ℕ
 address_in r = word r.e r.d
 
-abbrev pub block_in : PlainState → List ℕ
+unfoldable pub block_in : PlainState → List ℕ
 block_in w = map (λ i. slice_index w.memory (onward (address_in w.core.regs) i)) (range_with_len 0 36)
 
 -- The number of the drive that the control block names, 0 for A. From 4 on there is no such drive.
@@ -31,7 +31,7 @@ abbrev pub drive_in : PlainState → ℕ
 drive_in w = if slice_index (block_in w) 0 == 0 then drive_number w.core.desk.spot.drive else slice_index (block_in w) 0 - 1
 
 -- A file of the control block, by the drive and the eleven bytes from an index on.
-abbrev pub file_text : PlainState → ℕ → List ℕ
+unfoldable pub file_text : PlainState → ℕ → List ℕ
 file_text w at = name_text (drive_in w ∷ name_at (block_in w) at)
 
 -- A record number, and the buffer that gets the record or has it.

@@ -63,13 +63,22 @@ fn drive_in(run: &Run<'_>, block: &Fcb) -> u8
     }
 }
 
-// Appends a file of the control block at DE, by the eleven bytes of its name.
-fn push_file<X: Text>(text: &mut X, run: &Run<'_>, block: &Fcb, name: [u8; 11])
+// Appends the file of the control block at DE.
+#[tactic(auto, unfolding(crate::specs::CallLines::file_text))]
+fn push_file<X: Text>(text: &mut X, run: &Run<'_>, block: &Fcb)
     requires { block.now ≡ block_in (state_of run.now) }
-    ensures { X.pushed text.new
-        ≡ more (X.pushed text.old) (name_text (drive_in (state_of run.now) ∷ name)) }
+    ensures { X.pushed text.new ≡ more (X.pushed text.old) (file_text (state_of run.now) 1) }
 {
-    push_name(text, &key_on(drive_in(run, block), name))
+    push_name(text, &key_on(drive_in(run, block), block.key()))
+}
+
+// Appends its new name.
+#[tactic(auto, unfolding(crate::specs::CallLines::file_text))]
+fn push_new_file<X: Text>(text: &mut X, run: &Run<'_>, block: &Fcb)
+    requires { block.now ≡ block_in (state_of run.now) }
+    ensures { X.pushed text.new ≡ more (X.pushed text.old) (file_text (state_of run.now) 17) }
+{
+    push_name(text, &key_on(drive_in(run, block), block.new_key()))
 }
 
 // Appends what the line shows of the control block at DE after its file.
@@ -80,7 +89,7 @@ fn push_rest<X: Text>(text: &mut X, run: &Run<'_>, block: &Fcb, argument: Argume
     match argument {
         Argument::Renaming => {
             text.push(b" to ");
-            push_file(text, run, block, block.new_key())
+            push_new_file(text, run, block)
         }
         Argument::NextRecord => push_record(text, run, block.place()),
         Argument::ChosenRecord => push_record(text, run, whole_place(block)),
@@ -95,7 +104,7 @@ fn push_block<X: Text>(text: &mut X, run: &Run<'_>, argument: Argument)
 {
     let block = block_at(run);
     text.push(b" ");
-    push_file(text, run, &block, block.key());
+    push_file(text, run, &block);
     push_rest(text, run, &block, argument)
 }
 
@@ -116,9 +125,10 @@ fn push_argument<X: Text>(text: &mut X, run: &Run<'_>)
             text.push(b" ");
             text.push(word_digits(word_of(regs.e, regs.d)).as_bytes())
         }
-        Argument::File | Argument::Renaming | Argument::NextRecord | Argument::ChosenRecord => {
-            push_block(text, run, argument)
-        }
+        Argument::File => push_block(text, run, argument),
+        Argument::Renaming => push_block(text, run, argument),
+        Argument::NextRecord => push_block(text, run, argument),
+        Argument::ChosenRecord => push_block(text, run, argument),
     }
 }
 
