@@ -3,9 +3,10 @@
 ghost use Rattle.std.specs.Prelude.{◌≡◌, ◌<◌, ◌≤◌, ◌&&◌, ℕ, List, true, false, None, Some, filter, length};
 ghost use Rattle.std.specs.Prelude.{if◌then◌else◌, IfOk, IfSome, IfNone, OnOk, OnErr, option_copied};
 ghost use Rattle.std.specs.FinMap as finmap;
+ghost use Rattle.std.specs.Option.{option_map_or};
 ghost use Rattle.directory.specs.Entries.{is_match};
 ghost use Rattle.keymaps.specs.Order.{IsLeastAbove};
-ghost use Rattle.hostfiles.specs.Files.{has, is_listed, gone_entry, shapes};
+ghost use Rattle.hostfiles.specs.Files.{after_delete, has, is_listed, gone_entry, shapes};
 ghost use Rattle.hostfiles.specs.FileView.{is_view_there, view_own};
 
 use crate::changes::Changes;
@@ -136,55 +137,35 @@ pub fn delete_matches(
         length (filter (λ e. is_match pattern.now e.0)
         (finmap.entries (shapes host.now journal.old.entries)))) }
 {
-    let count = count_matches(host, journal, pattern);
-    if count != 0 {
-        *journal = without_matches(host, journal, pattern)?;
-    }
-    Ok(count)
-}
-
-// Returns the number of files whose keys match a pattern. If there is none, deleting these files changes nothing.
-fn count_matches(host: &HostFiles, journal: &Journal, pattern: &Key) -> u64
-    ensures count { result ≡
-        length (filter (λ e. is_match pattern.now e.0)
-        (finmap.entries (shapes host.now journal.now.entries))) }
-    ensures none { result ≡ 0 → (q : List ℕ) → finmap.get journal.now.entries q ≡
-        (if is_match pattern.now q && has host.now journal.now.entries q then Some gone_entry
-        else finmap.get journal.now.entries q) }
-{
     // Bounds the count, which is at most the number of all keys.
     let most = host.files().len() + journal.entries.len();
+    let mut left = None;
     let mut count: u64 = 0;
     let mut after = None;
     while let Some(next) = next_of_both(host.files(), &journal.entries, after) {
         let key = next.key;
         if is_deleted(&FileView::from_search(host, journal, &next), pattern) {
             count += 1;
+            left = Some(with_deletion(journal, left, &key)?);
         }
         after = Some(key);
     }
-    count
+    if let Some(left) = left {
+        *journal = left;
+    }
+    Ok(count)
 }
 
-// Returns the journal with each file deleted whose key matches a pattern. `Err` means out of memory.
-fn without_matches(
-    host: &HostFiles,
-    journal: &Journal,
-    pattern: &Key,
-) -> Result<Journal, AllocError>
-    ensures { IfOk result (λ r. (q : List ℕ) → finmap.get r.entries q ≡
-        (if is_match pattern.now q && has host.now journal.now.entries q then Some gone_entry
-        else finmap.get journal.now.entries q)) }
+// Returns the journal that is left, which is a copy of `journal` if there is none yet, with a file deleted. `Err` means out of memory.
+fn with_deletion(journal: &Journal, left: Option<Journal>, key: &Key) -> Result<Journal, AllocError>
+    ensures { IfOk result (λ r. r.entries
+        ≡ after_delete (option_map_or (λ j. j.entries) left journal.now.entries) key.now) }
 {
-    let mut left = journal.snapshot()?;
-    let mut after = None;
-    while let Some(next) = next_of_both(host.files(), &journal.entries, after) {
-        let key = next.key;
-        if is_deleted(&FileView::from_search(host, journal, &next), pattern) {
-            left.delete(&key)?;
-        }
-        after = Some(key);
-    }
+    let mut left = match left {
+        Some(left) => left,
+        None => journal.snapshot()?,
+    };
+    left.delete(key)?;
     Ok(left)
 }
 
