@@ -49,6 +49,7 @@ fn perform<M: Access>(regs: &mut Regs, bus: &mut M, op: Op) -> Result<Did, M::Re
             Ok(Did::Went)
         }
         Some(Err(refusal)) => {
+            // It is not said what a call that is given PC makes of this one.
             regs.pc = pc;
             Err(refusal)
         }

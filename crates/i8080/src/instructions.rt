@@ -1,5 +1,5 @@
 // The instructions. Each is given PC apart from the other registers, and returns where the next instruction is: a loop over them keeps
-// PC in a register of the machine, where `regs.pc` would go through its memory in every step. Each reads first, then makes cells ready and
+// PC in a register of the processor, where `regs.pc` would go through memory in every step. Each reads first, then makes cells ready and
 // writes them, and sets the registers last, so that the registers and the bytes of memory are unchanged if the memory refuses.
 
 ghost use Rattle.std.specs.Prelude.{◌≡◌, true, OnErr};
