@@ -99,7 +99,7 @@ def lines_of(path: Path) -> Iterator[tuple[str, str]]:
 CALLS = r'\bbdos::call\b|\buse bdos\b.*(\bcall\b|\*|\bas\b)'
 RUNS = r'\bmachine::Run\b|\buse machine\b.*(\bRun\b|\*|\bas\b)'
 METER = r'\bMeter>?::|\bMeter as\b|\b(type|impl|for)\b.*\bMeter\b'
-STEPS = r'\brun_from\b|\bmachine::step\b|\buse\b.*\bmachine\b.*(\bstep\b|\*|\bas\b)'
+STEPS = r'\brun_and_note\b|\bmachine::step\b|\buse\b.*\bmachine\b.*(\bstep\b|\*|\bas\b)'
 COMMAND = 'cpmrun/src/command_line.rt'
 LOOP = 'replay/src/run.rt'
 SYSTEM = 'folders/src/file_system.rt'
@@ -115,15 +115,15 @@ MAY_REPORT_OUT_OF_MEMORY = {
     'command_words': 'error_class read_dependency_words read_trace_words read_words',
     'cpmrun': 'plan_report replay_file write_report',
     'dependency_command': 'write_listing write_rule',
-    'disks': 'disks_of id_at is_read_from lock lock_disks same_folders',
+    'disks': 'disks_of lock_disks same_folders',
     'edit_lines': 'execute_edit hex_bytes',
     'faults': 'message report_fault status',
-    'folders': 'add_file host_file names_in note read_failure read_one set write_failure',
+    'folders': 'note read_failure set write_failure',
     'hostfiles': 'number',
-    'loading': 'read_fault tail_of typed_bytes typed_script',
+    'loading': 'read_fault typed_bytes',
     'make_rules': 'refusal',
     'one_run': 'path_of',
-    'plan': 'look_into put remove trouble_of uncommitted unprepared',
+    'plan': 'look_into put remove uncommitted unprepared',
     'replay': 'number',
     'requests': 'clash_fault program_words request_of_error taken_fault',
     'tracing': 'call_trace',
@@ -229,13 +229,13 @@ class SourcesTest(RuleTest):
 
     def test_only_one_run_and_what_lists_or_traces_a_run_names_a_run(self) -> None:
         """A `Run` executes steps that no meter counts: an edit that ran the session once more by it would have the same contract."""
-        self.refuse(in_code(RUNS, 'one_run/', 'dependencies/', 'tracing/', 'trace_lines/', 'trace_filters/', 'trials/'))
+        self.refuse(in_code(RUNS, 'one_run/', 'dependencies/', 'tracing/', 'trace_lines/', 'trace_filters/', 'accesses/'))
 
     def test_only_the_loop_of_a_rerun_executes_steps_and_in_one_place(self) -> None:
-        """`run_from` is public for this loop and `step` for tests; a contract counts the steps of the loop, and not what is executed beside it."""
+        """`run_and_note` is public for this loop and `step` for tests; a contract counts the steps of the loop, and not what is executed beside it."""
         self.refuse(in_code(STEPS, LOOP, 'machine/'))
         self.expect_count(2, STEPS, LOOP)
-        self.expect_count(1, r'\brun_from\(', LOOP)
+        self.expect_count(1, r'\brun_and_note\(', LOOP)
 
     def test_a_file_is_only_written_where_there_is_none(self) -> None:
         """No contract says how a file is opened. One function writes through what is at a path, as a shell's `>` does: for reports whose path
@@ -255,7 +255,7 @@ class SourcesTest(RuleTest):
     def test_crates_above_replay_do_not_ask_what_was_looked_at(self) -> None:
         """The state of a run that has ended is public; a reply is about what the run did, and not about its looks. A call that is tried has
         looks of its own."""
-        self.refuse(in_code(r'\blooked\b', 'pagemem/', 'console_calls/', 'hostfiles/', 'machine/', 'replay/', 'trials/'))
+        self.refuse(in_code(r'\blooked\b', 'pagemem/', 'console_calls/', 'hostfiles/', 'machine/', 'replay/', 'accesses/'))
 
     def test_a_checkpoint_holds_no_looks_and_no_text_and_shares_its_pages(self) -> None:
         """No contract says how much memory a value holds, and no other field would change a reply."""
@@ -287,6 +287,13 @@ class SourcesTest(RuleTest):
     def test_each_crate_names_the_crates_that_it_uses(self) -> None:
         """A build proves each of these crates first, also one that is listed for nothing."""
         self.refuse(f'{crate.name}: {used}' for crate in read_crates() for used in unnamed(crate))
+
+    def test_few_chains_of_crates_lead_down_from_a_crate(self) -> None:
+        """Before a proof rt reads each crate below once for each chain that leads to it, so one more line of crates.txt can cost minutes."""
+        chains = {}
+        for crate in read_crates():
+            chains[crate.name] = 1 + sum(chains.get(used, 0) for used in crate.uses)
+        self.refuse(f'{name}: {count} chains' for name, count in chains.items() if count > 4000)
 
     def test_the_root_of_each_crate_describes_its_modules(self) -> None:
         """A reader of a crate begins there."""

@@ -13,7 +13,7 @@ JUMPS = (2, 3)
 others."""
 
 APART = [
-    'machine::stretch::run_to_look',
+    'machine::stretch::run_until',
     'machine::stretch::execute_learning',
     'machine::state::State::note_looks',
     'pagemem::page::Slot::own',

@@ -20,7 +20,7 @@ pub fn fetch_cells<B: Bus>(bus: &mut B, at: u16, cells: &mut [u8])
     ensures length { length cells.new ≡ length cells.old }
     ensures kept { KeepsReady (B.is_ready bus.old) (B.is_ready bus.new) }
 {
-    if !bus.known_cells(at, cells) {
+    if !bus.cells_at_once(at, cells) {
         fetch_each(bus, at, cells);
     }
 }

@@ -1,7 +1,10 @@
 // What a call does with what it found.
 
+#![tactic(auto, using(crate::proofs::Parts::still_looked_at))]
+
 ghost use Rattle.std.specs.Prelude.{◌≡◌, ◌≢◌, ◌≤◌, ◌/◌, ◌%◌, List, [], ◌∷◌, ◌++◌, ℕ, true, Ok, OnOk, OnErr, length};
-ghost use Rattle.console_calls.specs.ScriptLooks.{DeskLooks};
+ghost use Rattle.console_calls.specs.ConsoleCalls.{at_caller};
+ghost use Rattle.console_calls.specs.declared.served.Served.TheVariants.{Went};
 ghost use Rattle.file_calls.specs.TableView.{TableView, table_view};
 ghost use Rattle.file_calls.specs.DistinctKeys.{HasDistinctKeys};
 ghost use Rattle.file_calls.specs.Changes.{Unchanged, Stored};
@@ -21,9 +24,8 @@ ghost use Rattle.bdos.specs.Growth.{Grows, is_done};
 
 use crate::cells::{fetch_cells, put_cells, put_record, ready_place, write_place};
 use console_calls::{Desk, Served, return_to};
-use cpmfiles::{Key, RECORD_BYTES, Record, Table};
-use directory::Search;
-use file_calls::{Finding, Write};
+use file_calls::{Finding, Table, Write};
+use hostfiles::{Key, RECORD_BYTES, Record, Search};
 use i8080::{Bus, Regs, word_of};
 use std::alloc::AllocError;
 
@@ -51,55 +53,48 @@ pub fn apply_finding<B: Bus>(
     ensures needs { (f : SystemAnswers) → OnErr result (Grows (B.is_ready bus.old)
         (result_of f (call_with_finding finding.now regs.old desk.old.desk.spot to))) }
 {
+    let block = word_of(regs.e, regs.d);
     match finding {
-        Finding::Value(value) => Ok(return_value(regs, bus, desk, *value, to)),
-        Finding::Opened(count) => return_count(regs, bus, desk, *count, to),
-        Finding::FirstEntry(search) => return_entry(regs, bus, desk, search, to),
-        Finding::NoEntry => Ok(return_no_entry(regs, bus, desk, to)),
-        Finding::Found(bytes, next) => return_record(regs, bus, desk, bytes, *next, to),
+        Finding::Value(value) => Ok(returned(regs, *value, to)),
+        Finding::Opened(count) => {
+            put_cells(bus, block.wrapping_add(13), &opened_bytes(*count))?;
+            Ok(returned(regs, 0, to))
+        }
+        Finding::FirstEntry(search) => {
+            put_cells(bus, desk.buffer(), &directory_record(&search.last))?;
+            desk.set_search(Some(*search));
+            Ok(returned(regs, 0, to))
+        }
+        Finding::NoEntry => {
+            desk.set_search(None);
+            Ok(returned(regs, 0xff, to))
+        }
+        Finding::Found(bytes, next) => {
+            put_record(bus, desk.buffer(), bytes, block, *next)?;
+            Ok(returned(regs, 0, to))
+        }
         Finding::Write(write) => store(regs, bus, table, desk, write, to),
         Finding::Make(key) => make(regs, bus, table, desk, key, to),
-        Finding::Rename(old, new) => rename(regs, bus, table, desk, (*old, *new), to),
+        Finding::Rename(old, new) => {
+            table.changes.journal.rename(old, new)?;
+            Ok(returned(regs, 0, to))
+        }
         Finding::Length(length) => return_place(regs, bus, desk, *length, 0, to),
         Finding::NoLength => return_place(regs, bus, desk, 0, 0xff, to),
         Finding::RandomPlace(number) => return_place(regs, bus, desk, *number, 0, to),
     }
 }
 
-// Completes a call with a value and does nothing else.
-#[tactic(auto, using(crate::proofs::Parts::still_looked_at))]
-fn return_value<B: Bus>(regs: &mut Regs, bus: &B, desk: &Desk, value: u8, to: u16) -> Served
-    ensures { (script : List ℕ) (v : TableView) →
-        MakesSystemCall (λ r spot. call_with_finding (finding.Value value) r spot to) script
-        (scene regs.old (B.memory bus.now) desk.now) v (Ok result)
-        (scene regs.new (B.memory bus.now) desk.now) v }
+// Returns to the caller at `to` with a value.
+fn returned(regs: &mut Regs, value: u8, to: u16) -> Served
+    ensures went { result ≡ Went }
+    ensures regs { regs.new ≡ at_caller value to regs.old }
 {
-    return_to(regs, value as u16, to);
+    return_to(regs, u16::from(value), to);
     Served::Went
 }
 
-// Clears the bytes 13 to 31 of the control block, except byte 15, which gets the record count of the opened extent.
-#[tactic(auto, using(crate::proofs::Parts::still_looked_at))]
-fn return_count<B: Bus>(
-    regs: &mut Regs,
-    bus: &mut B,
-    desk: &Desk,
-    count: u8,
-    to: u16,
-) -> Result<Served, AllocError>
-    ensures makes { (script : List ℕ) (v : TableView) →
-        MakesSystemCall (λ r spot. call_with_finding (finding.Opened count) r spot to) script
-        (scene regs.old (B.memory bus.old) desk.now) v result
-        (scene regs.new (B.memory bus.new) desk.now) v }
-    ensures refused { OnErr result (WritesUnready (B.is_ready bus.old)
-        (cells_from (onward (word regs.old.e regs.old.d) 13) (opened_bytes count))) }
-{
-    let at = word_of(regs.e, regs.d).wrapping_add(13);
-    return_cells(regs, bus, at, &opened_bytes(count), 0, to)
-}
-
 // Writes a random record number into the bytes 33 to 35 of the control block, and completes the call with a value.
-#[tactic(auto, using(crate::proofs::Parts::still_looked_at))]
 fn return_place<B: Bus>(
     regs: &mut Regs,
     bus: &mut B,
@@ -117,65 +112,8 @@ fn return_place<B: Bus>(
         (random_cells (word regs.old.e regs.old.d) record_number)) }
 {
     let at = word_of(regs.e, regs.d).wrapping_add(33);
-    return_cells(regs, bus, at, &random_bytes(record_number), value, to)
-}
-
-// Completes a call whose search matches no entry, which ends the search.
-#[tactic(auto, using(crate::proofs::Parts::still_looked_at))]
-fn return_no_entry<B: Bus>(regs: &mut Regs, bus: &B, desk: &mut Desk, to: u16) -> Served
-    ensures { (script : List ℕ) (v : TableView) →
-        MakesSystemCall (λ r spot. call_with_finding finding.NoEntry r spot to) script
-        (scene regs.old (B.memory bus.now) desk.old) v (Ok result)
-        (scene regs.new (B.memory bus.now) desk.new) v }
-{
-    desk.set_search(None);
-    return_to(regs, 0xff, to);
-    Served::Went
-}
-
-// Writes bytes into the cells from an address on, and completes the call with a value.
-#[tactic(auto, using(crate::proofs::Parts::still_looked_at))]
-fn return_cells<B: Bus>(
-    regs: &mut Regs,
-    bus: &mut B,
-    at: u16,
-    bytes: &[u8],
-    value: u8,
-    to: u16,
-) -> Result<Served, AllocError>
-    requires { length bytes.now ≤ 128 }
-    ensures makes { (script : List ℕ) (d : DeskLooks) (v : TableView) →
-        MakesSystemCall (λ r spot. return_with value r spot to (cells_from at bytes.now) Unchanged) script
-        (scene regs.old (B.memory bus.old) d) v result
-        (scene regs.new (B.memory bus.new) d) v }
-    ensures refused { OnErr result (WritesUnready (B.is_ready bus.old)
-        (cells_from at bytes.now)) }
-{
-    put_cells(bus, at, bytes)?;
-    return_to(regs, value as u16, to);
-    Ok(Served::Went)
-}
-
-// Writes the entry that a search found into the buffer, as a directory record, and sets where the search continues.
-#[tactic(auto, using(crate::proofs::Parts::still_looked_at))]
-fn return_entry<B: Bus>(
-    regs: &mut Regs,
-    bus: &mut B,
-    desk: &mut Desk,
-    search: &Search,
-    to: u16,
-) -> Result<Served, AllocError>
-    ensures makes { (script : List ℕ) (v : TableView) →
-        MakesSystemCall (λ r spot. call_with_finding (finding.FirstEntry search.now) r spot to) script
-        (scene regs.old (B.memory bus.old) desk.old) v result
-        (scene regs.new (B.memory bus.new) desk.new) v }
-    ensures refused { OnErr result (WritesUnready (B.is_ready bus.old)
-        (cells_from desk.old.desk.spot.buffer (directory_record search.now.last))) }
-{
-    put_cells(bus, desk.buffer(), &directory_record(&search.last))?;
-    desk.set_search(Some(*search));
-    return_to(regs, 0, to);
-    Ok(Served::Went)
+    put_cells(bus, at, &random_bytes(record_number))?;
+    Ok(returned(regs, value, to))
 }
 
 // Returns a directory record with this first entry; the other entries are unused.
@@ -185,30 +123,6 @@ fn directory_record(entry: &[u8; 32]) -> Record
     let mut bytes = [0xe5; RECORD_BYTES];
     bytes[..32].copy_from_slice(entry);
     bytes
-}
-
-// Writes the record that was read into the buffer, and a sequential record number into the control block.
-#[tactic(auto, using(crate::proofs::Parts::still_looked_at))]
-fn return_record<B: Bus>(
-    regs: &mut Regs,
-    bus: &mut B,
-    desk: &Desk,
-    bytes: &Record,
-    next: u32,
-    to: u16,
-) -> Result<Served, AllocError>
-    ensures makes { (script : List ℕ) (v : TableView) →
-        MakesSystemCall (λ r spot. call_with_finding (finding.Found bytes.now next) r spot to) script
-        (scene regs.old (B.memory bus.old) desk.now) v result
-        (scene regs.new (B.memory bus.new) desk.now) v }
-    ensures refused { OnErr result (WritesUnready (B.is_ready bus.old)
-        (cells_from desk.now.desk.spot.buffer bytes.now
-        ++ place_cells (word regs.old.e regs.old.d) next)) }
-{
-    let block = word_of(regs.e, regs.d);
-    put_record(bus, desk.buffer(), bytes, block, next)?;
-    return_to(regs, 0, to);
-    Ok(Served::Went)
 }
 
 // Writes the record in the buffer to a file, and a sequential record number into the control block.
@@ -231,8 +145,7 @@ fn store<B: Bus>(
     ready_place(bus, block)?;
     write_record(table, write, &bytes)?;
     write_place(bus, block, write.next);
-    return_to(regs, 0, to);
-    Ok(Served::Went)
+    Ok(returned(regs, 0, to))
 }
 
 // Writes a record to a file; the gap before it becomes holes or zeros. An `Err` changes no file.
@@ -267,29 +180,7 @@ fn make<B: Bus>(
     bus.ready_cells(at, 19)?;
     table.changes.journal.make(key)?;
     bus.write_cells(at, &made_bytes());
-    return_to(regs, 0, to);
-    Ok(Served::Went)
-}
-
-// Renames a file.
-fn rename<B: Bus>(
-    regs: &mut Regs,
-    bus: &B,
-    table: &mut Table<'_>,
-    desk: &Desk,
-    keys: (Key, Key),
-    to: u16,
-) -> Result<Served, AllocError>
-    requires { keys.0 ≢ keys.1 }
-    ensures { (script : List ℕ) →
-        MakesSystemCall (λ r spot. call_with_finding (finding.Rename keys.0 keys.1) r spot to) script
-        (scene regs.old (B.memory bus.now) desk.now) (table_view table.old) result
-        (scene regs.new (B.memory bus.now) desk.now) (table_view table.new) }
-{
-    let (old, new) = keys;
-    table.changes.journal.rename(&old, &new)?;
-    return_to(regs, 0, to);
-    Ok(Served::Went)
+    Ok(returned(regs, 0, to))
 }
 
 // Returns the bytes 13 to 31 of a control block that is opened at an extent with this record count.

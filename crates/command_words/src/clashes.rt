@@ -1,7 +1,7 @@
 // Words that ask for two things of which one excludes the other, or for one without another that it needs.
 
 ghost use Rattle.std.specs.Prelude.{◌≡◌, is_some, map, [], ◌∷◌};
-ghost use Rattle.command_words.specs.Clashes as texts;
+ghost use Rattle.command_words.specs.Clashes as clashes;
 ghost use Rattle.command_words.specs.Rows.{check_of};
 
 use crate::clashes::Clash::{Both, Missing};
@@ -24,8 +24,8 @@ type Check<'a> = (Option<&'a str>, Option<&'a str>, Clash);
 
 // Returns what is wrong by the first check that fails.
 fn first_failed(checks: &[Check<'_>]) -> Option<Clash>
-    ensures any { is_some result ≡ is_some (texts.first_failed (map check_of checks.now)) }
-    ensures first { texts.names_of result ≡ texts.first_failed (map check_of checks.now) }
+    ensures any { is_some result ≡ is_some (clashes.first_failed (map check_of checks.now)) }
+    ensures first { clashes.names_of result ≡ clashes.first_failed (map check_of checks.now) }
 {
     for (one, other, clash) in checks {
         let fails = match clash {
@@ -42,7 +42,7 @@ fn first_failed(checks: &[Check<'_>]) -> Option<Clash>
 impl SessionWords<'_> {
     /// Returns the first two options that describe the session and exclude each other, if both are given.
     pub fn clash(&self) -> Option<Clash>
-        ensures { texts.names_of result ≡ texts.first_failed (texts.session_checks self.now) }
+        ensures { clashes.names_of result ≡ clashes.first_failed (clashes.session_checks self.now) }
     {
         let (console, typed) = (self.console, self.typed);
         let (own, disk) = (self.own, self.disk);
@@ -59,8 +59,8 @@ impl SessionWords<'_> {
 impl Words<'_> {
     /// Returns the first two options that exclude each other, if both are given, or one that another one lacks.
     pub fn clash(&self) -> Option<Clash>
-        ensures any { is_some result ≡ texts.run_clashes self.now }
-        ensures first { texts.names_of result ≡ texts.first_failed (texts.run_checks self.now) }
+        ensures any { is_some result ≡ clashes.run_clashes self.now }
+        ensures first { clashes.names_of result ≡ clashes.first_failed (clashes.run_checks self.now) }
     {
         let (console, typed) = (self.console, self.typed);
         let (edits, deps, trace) = (self.edits, self.deps, self.trace);
@@ -85,8 +85,8 @@ impl Words<'_> {
 impl DependencyWords<'_> {
     /// Returns the first two options that exclude each other, if both are given.
     pub fn clash(&self) -> Option<Clash>
-        ensures any { is_some result ≡ texts.dependency_clashes self.now }
-        ensures first { texts.names_of result ≡ texts.first_failed (texts.dependency_checks self.now) }
+        ensures any { is_some result ≡ clashes.dependency_clashes self.now }
+        ensures first { clashes.names_of result ≡ clashes.first_failed (clashes.dependency_checks self.now) }
     {
         if self.target.is_some() && self.by_step {
             return Some(Both("--make <TARGET>", "--by-step"));
@@ -98,8 +98,8 @@ impl DependencyWords<'_> {
 impl TraceWords<'_> {
     /// Returns the first two options that exclude each other, if both are given.
     pub fn clash(&self) -> Option<Clash>
-        ensures any { is_some result ≡ texts.trace_clashes self.now }
-        ensures first { texts.names_of result ≡ texts.first_failed (texts.trace_checks self.now) }
+        ensures any { is_some result ≡ clashes.trace_clashes self.now }
+        ensures first { clashes.names_of result ≡ clashes.first_failed (clashes.trace_checks self.now) }
     {
         self.session.clash()
     }

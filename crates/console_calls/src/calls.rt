@@ -1,7 +1,12 @@
+#![tactic(auto, using(crate::proofs::Looking::until_it_failed))]
+
 ghost use Rattle.std.specs.Prelude.{◌≡◌, ◌≤◌, ◌<◌, ◌==◌, ℕ, List, length, not, true, false, slice_get, is_some, IsSome, IsTrue};
 ghost use Rattle.std.specs.Prelude.{OnOk, OnErr, if◌then◌else◌, Ok};
 ghost use Rattle.std.specs.Option.{option_map_or};
+ghost use Rattle.i8080.specs.Instruction.{word_at};
 ghost use Rattle.i8080.specs.Memory.{write_all};
+ghost use Rattle.i8080.specs.Performs.{Reads};
+ghost use Rattle.i8080.specs.Reading.{Done};
 ghost use Rattle.i8080.specs.Registers.{onward};
 ghost use Rattle.console_calls.specs.ConsoleCalls as calls;
 ghost use Rattle.console_calls.specs.ConsoleCalls.{at_caller, line_cells};
@@ -9,12 +14,13 @@ ghost use Rattle.console_calls.specs.Desk.{is_echoed};
 ghost use Rattle.console_calls.specs.Growth.{may_grow};
 ghost use Rattle.console_calls.specs.PerformsCall.{MakesCall, scene};
 ghost use Rattle.console_calls.specs.Printing.{Prints, Scans};
+ghost use Rattle.console_calls.specs.declared.served.Served.TheVariants.{Went};
 
 use crate::cause::Cause;
-use crate::desk::Desk;
-use crate::disks::{current_disk, login_vector, reset_disks, select_disk, set_buffer_address};
+use crate::desk::{Desk, FIRST_BUFFER};
 use crate::line::{LineEnd, take_line};
 use crate::served::Served;
+use filenames::Drive;
 use i8080::{Bus, Regs, fetch, fetch_word, word_of};
 use std::alloc::AllocError;
 
@@ -23,6 +29,9 @@ const IO_BYTE: u16 = 0x0003;
 
 /// The version that function 12 returns: 2.2.
 const VERSION: u16 = 0x0022;
+
+/// The drives A to D, a bit for each.
+const DRIVES: u16 = 0x000f;
 
 /// Executes the call whose number is in C. [Interface Guide 1979, system function summary]
 ///
@@ -56,19 +65,25 @@ pub fn console_call<B: Bus>(
         9 => string_output(regs, bus, desk),
         10 => line_input(regs, bus, desk, script),
         11 => Ok(console_status(regs, bus, desk, script)),
-        12 => Ok(version_number(regs, bus, desk)),
-        13 => Ok(reset_disks(regs, bus, desk)),
+        12 => Ok(completed(regs, bus, VERSION)),
+        13 => {
+            desk.set_buffer(FIRST_BUFFER);
+            desk.set_drive(Drive::A);
+            Ok(completed(regs, bus, 0))
+        }
         14 => Ok(select_disk(regs, bus, desk)),
-        24 => Ok(login_vector(regs, bus, desk)),
-        25 => Ok(current_disk(regs, bus, desk)),
-        26 => Ok(set_buffer_address(regs, bus, desk)),
+        24 => Ok(completed(regs, bus, DRIVES)),
+        25 => Ok(completed(regs, bus, u16::from(desk.drive().number()))),
+        26 => {
+            desk.set_buffer(word_of(regs.e, regs.d));
+            Ok(completed(regs, bus, 0))
+        }
         number => Ok(Served::Stop(Cause::Unsupported(number))),
     }
 }
 
 // Executes function 1, which takes a byte of the script, echoes it if it is graphic or one of CR, LF, tab and backspace,
 // and returns it.
-#[tactic(auto, using(crate::proofs::Looking::until_it_failed))]
 fn console_input<B: Bus>(
     regs: &mut Regs,
     bus: &mut B,
@@ -84,11 +99,9 @@ fn console_input<B: Bus>(
         desk.look(1);
         return Ok(Served::Stop(Cause::ConsoleExhausted));
     };
-    let to = fetch_word(bus, regs.sp);
     desk.echo(byte)?;
     desk.take(1);
-    return_to(regs, byte as u16, to);
-    Ok(Served::Went)
+    Ok(completed(regs, bus, u16::from(byte)))
 }
 
 // Executes function 6: input if E is 0FFH, else output.
@@ -114,19 +127,15 @@ fn direct_input<B: Bus>(regs: &mut Regs, bus: &mut B, desk: &mut Desk, script: &
         (scene regs.old (B.memory bus.old) desk.old) (Ok result)
         (scene regs.new (B.memory bus.new) desk.new) }
 {
-    let to = fetch_word(bus, regs.sp);
     let Some(byte) = byte_at(script, desk.cursor()) else {
         desk.look(1);
-        return_to(regs, 0, to);
-        return Served::Went;
+        return completed(regs, bus, 0);
     };
     desk.take(1);
-    return_to(regs, byte as u16, to);
-    Served::Went
+    completed(regs, bus, u16::from(byte))
 }
 
 // Executes function 6 with another E, which sends E.
-#[tactic(auto, using(crate::proofs::Looking::until_it_failed))]
 fn direct_output<B: Bus>(
     regs: &mut Regs,
     bus: &mut B,
@@ -135,10 +144,8 @@ fn direct_output<B: Bus>(
     ensures { (script : List ℕ) → MakesCall calls.direct_output script
         (scene regs.old (B.memory bus.old) desk.old) result (scene regs.new (B.memory bus.new) desk.new) }
 {
-    let to = fetch_word(bus, regs.sp);
     desk.append(regs.e)?;
-    return_to(regs, 0, to);
-    Ok(Served::Went)
+    Ok(completed(regs, bus, 0))
 }
 
 // Executes function 11, which returns whether a byte of the script is left.
@@ -147,15 +154,12 @@ fn console_status<B: Bus>(regs: &mut Regs, bus: &mut B, desk: &mut Desk, script:
         (scene regs.old (B.memory bus.old) desk.old) (Ok result)
         (scene regs.new (B.memory bus.new) desk.new) }
 {
-    let to = fetch_word(bus, regs.sp);
     let status = console_state(script, desk.cursor());
     desk.look(1);
-    return_to(regs, status, to);
-    Served::Went
+    completed(regs, bus, status)
 }
 
 // Executes function 2, which prints E.
-#[tactic(auto, using(crate::proofs::Looking::until_it_failed))]
 fn console_output<B: Bus>(
     regs: &mut Regs,
     bus: &mut B,
@@ -164,23 +168,18 @@ fn console_output<B: Bus>(
     ensures { (script : List ℕ) → MakesCall calls.console_output script
         (scene regs.old (B.memory bus.old) desk.old) result (scene regs.new (B.memory bus.new) desk.new) }
 {
-    let to = fetch_word(bus, regs.sp);
     desk.print(regs.e)?;
-    return_to(regs, 0, to);
-    Ok(Served::Went)
+    Ok(completed(regs, bus, 0))
 }
 
 // Executes function 7, which returns the I/O byte.
-#[tactic(auto, using(crate::proofs::Looking::until_it_failed))]
 fn get_io_byte<B: Bus>(regs: &mut Regs, bus: &mut B, desk: &Desk) -> Served
     ensures { (script : List ℕ) → MakesCall calls.get_io_byte script
         (scene regs.old (B.memory bus.old) desk.now) (Ok result)
         (scene regs.new (B.memory bus.new) desk.now) }
 {
     let byte = fetch(bus, IO_BYTE);
-    let to = fetch_word(bus, regs.sp);
-    return_to(regs, u16::from(byte), to);
-    Served::Went
+    completed(regs, bus, u16::from(byte))
 }
 
 // Executes function 8, which sets the I/O byte to E.
@@ -197,19 +196,20 @@ fn set_io_byte<B: Bus>(regs: &mut Regs, bus: &mut B, desk: &Desk) -> Result<Serv
     Ok(Served::Went)
 }
 
-// Executes function 12, which returns the version.
-fn version_number<B: Bus>(regs: &mut Regs, bus: &mut B, desk: &Desk) -> Served
-    ensures { (script : List ℕ) → MakesCall calls.version_number script
-        (scene regs.old (B.memory bus.old) desk.now) (Ok result)
-        (scene regs.new (B.memory bus.new) desk.now) }
+// Executes function 14, which sets the current drive. Stops if there is no such drive.
+fn select_disk<B: Bus>(regs: &mut Regs, bus: &mut B, desk: &mut Desk) -> Served
+    ensures { (script : List ℕ) → MakesCall calls.select_disk script
+        (scene regs.old (B.memory bus.old) desk.old) (Ok result)
+        (scene regs.new (B.memory bus.new) desk.new) }
 {
-    let to = fetch_word(bus, regs.sp);
-    return_to(regs, VERSION, to);
-    Served::Went
+    let Some(drive) = Drive::from_number(regs.e) else {
+        return Served::Stop(Cause::BadDrive(regs.e));
+    };
+    desk.set_drive(drive);
+    completed(regs, bus, 0)
 }
 
 // Executes function 9, which prints the string at DE.
-#[tactic(auto, using(crate::proofs::Looking::until_it_failed))]
 fn string_output<B: Bus>(
     regs: &mut Regs,
     bus: &mut B,
@@ -302,6 +302,17 @@ fn store_line<B: Bus>(bus: &mut B, at: u16, text: &[u8])
 {
     bus.write(at.wrapping_add(1), text.len() as u8);
     bus.write_cells(at.wrapping_add(2), text);
+}
+
+// Completes a call that has still to read its return address, with a value.
+fn completed<B: Bus>(regs: &mut Regs, bus: &mut B, value: u16) -> Served
+    ensures went { result ≡ Went }
+    ensures reads { Reads (word_at regs.old.sp Done) (B.memory bus.old) regs.new.pc (B.memory bus.new) }
+    ensures regs { regs.new ≡ at_caller value regs.new.pc regs.old }
+{
+    let to = fetch_word(bus, regs.sp);
+    return_to(regs, value, to);
+    Served::Went
 }
 
 /// Sets the registers for the return to the caller at `to`: HL gets the value, A is L and B is H, and the return

@@ -10,6 +10,9 @@ use filenames::Drive;
 use std::alloc::{AllocError, Global};
 use std::marker::Model;
 
+/// The buffer address at the start and after a reset, in page zero.
+pub(crate) const FIRST_BUFFER: u16 = 0x0080;
+
 /// All of a desk except its text: the cursor, which is the number of script bytes taken, the column, the buffer address
 /// of the file calls, the current drive, and where a search of the directory continues, if there is one.
 #[derive(Clone, Copy)]
@@ -77,7 +80,7 @@ impl Desk {
         let spot = Spot {
             cursor: 0,
             column: 0,
-            buffer: 0x80,
+            buffer: FIRST_BUFFER,
             drive: Drive::A,
             search: None,
         };
@@ -163,18 +166,6 @@ impl Desk {
         ensures { result ≡ is_within self.now.looks at }
     {
         self.looks.from as u64 <= at && at < self.looks.to as u64
-    }
-
-    /// Returns the script offsets that were looked at.
-    pub fn script_looks(&self) -> ScriptLooks
-        ensures { result ≡ self.now.looks }
-    {
-        let Desk {
-            spot: _,
-            text: _,
-            looks,
-        } = self;
-        *looks
     }
 
     /// Forgets which script offsets were looked at.

@@ -1,7 +1,6 @@
 //! The calls of the BDOS of CP/M 2.2 that need no files, over any memory.
 //!
 //! - `calls`: `console_call`, and one function for each call
-//! - `disks`: the calls for drives and the buffer address
 //! - `desk`, `script_looks`: the desk, which sends and prints and takes bytes of the script; the script offsets that were
 //!   looked at
 //! - `line`: the line that function 10 takes from the script
@@ -13,7 +12,6 @@
 mod calls;
 mod cause;
 mod desk;
-mod disks;
 mod line;
 mod script_looks;
 mod served;

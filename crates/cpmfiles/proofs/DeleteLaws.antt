@@ -4,7 +4,7 @@ use Rattle.std.specs.Ordering.{nat_cmp, eq_by_cmp}
 use Rattle.std.specs.Cmp.Lexicographic.{slice_cmp, nat_list_cmp_total}
 use Rattle.std.specs.FinMap.{get, get-insert}
 use Rattle.hostfiles.proofs.Views.{same_key, key_of}
-use Rattle.directory.specs.Entries.{is_match}
+use Rattle.hostfiles.specs.Entries.{is_match}
 use Rattle.hostfiles.proofs.FileLemmas.{get-files}
 use Rattle.hostfiles.proofs.LaidLemmas.{entry_file}
 use Rattle.hostfiles.specs.Hosts.{Key, Host}
@@ -38,13 +38,6 @@ none_deleted host own key after plain h e = record {
       ap (λ m. get m q) e
       ∙ none_taken (eq_by_cmp (slice_cmp nat_cmp) q key) (has host own q) (Some gone_entry) (get own q) (λ b. ap (has host own) (key_of same_key q key b) ∙ h)
       ∙ sym (ap (λ t. cond t (Some gone_entry) (get own q)) (named_alone host own key q plain));
-}
-
-pub all_deleted : (host : Host) (own : OwnFiles) (pattern : Key) (after : OwnFiles) → has_wildcard pattern ≡ true
-    → ((q : Key) → get after q ≡ cond (is_match pattern q && has host own q) (Some gone_entry) (get own q)) → NamedAreGone host own pattern after
-all_deleted host own pattern after wild h = record {
-  at = λ q.
-      h q ∙ sym (ap (λ b. cond (cond b (is_match pattern q) (eq_by_cmp (slice_cmp nat_cmp) q pattern) && has host own q) (Some gone_entry) (get own q)) wild);
 }
 
 -- ---- the map of all files

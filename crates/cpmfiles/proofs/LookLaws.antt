@@ -1,5 +1,5 @@
 -- No look is lost, and a call that fails has only looks of the whole call.
-use Rattle.std.proofs.Common.{◌≡◌, ℕ, Bool, true, false, cond, is_some, nat_lt, refl}
+use Rattle.std.proofs.Common.{ℕ, Bool, true, false, cond, is_some, nat_lt, refl}
 use Rattle.std.specs.FinMap.{get}
 use Rattle.hostfiles.specs.Hosts.{Key, Host}
 use Rattle.hostfiles.specs.Files.{OwnFiles, has, length_at, entry_at, is_host_part}

@@ -2,7 +2,7 @@
 -- project's profile.)
 use Rattle.std.specs.Prelude.{Bool, ◌&&◌, ◌==◌, not, drop}
 use Rattle.std.specs.List.{list_any}
-use Rattle.filenames.specs.Names.{is_sayable}
+use Rattle.hostfiles.specs.Names.{is_sayable}
 use Rattle.hostfiles.specs.Hosts.{Key}
 
 -- Whether there is a `?` among the bytes of a name.

@@ -1,9 +1,10 @@
 -- The effect of a call on a table. (This project's own.)
-use Rattle.std.specs.Prelude.{◌≡◌, ◌⊎◌, Bool, true, false, IfOk, OnErr}
+use Rattle.std.specs.Prelude.{◌≡◌, ◌⊎◌, Bool, true, if◌then◌else◌, IfOk, OnErr}
 use Rattle.std.specs.declared.result.Result.{Result}
 use Rattle.std.specs.declared.alloc.AllocError.{AllocError}
 use Rattle.hostfiles.specs.Files.{OwnFiles}
 use Rattle.hostfiles.specs.FileLooks.{HasNewAsk}
+use Rattle.hostfiles.specs.Asking.{AsksFor}
 use Rattle.hostfiles.specs.declared.looks.FileLooks.{FileLooks}
 use Rattle.cpmfiles.specs.declared.table.Table.{Table}
 
@@ -19,12 +20,15 @@ pub record StandsOver (old new : Table) : Type 0 where
   pub host : new.host.now ≡ old.host.now
   pub lender : new.changes.ghost_name ≡ old.changes.ghost_name
 
--- If the result is true, this change was made; if it is false or an error, nothing was changed.
-pub record DoesIf (result : Result Bool AllocError) (change old new : OwnFiles) : Type 0 where
-  pub done : IfOk result (λ b. b ≡ true → new ≡ change)
-  pub not_done : IfOk result (λ b. b ≡ false → new ≡ old)
-  pub err : OnErr result (new ≡ old)
-
 -- What a call needs memory for: to note a question that was not asked before, or to change files.
 abbrev pub NeedsMemory : FileLooks → FileLooks → Bool → Type 0
 NeedsMemory before after changes = HasNewAsk before after ⊎ (changes ≡ true)
+
+-- The call asks these questions, and makes this change if the wanted answer is yes; if it is no, or on an error, the call changes
+-- no file. An allocation fails only to note a question that was not asked before, or to make the change.
+pub record DoesIf (result : Result Bool AllocError) (wanted : Bool) (look : FileLooks → FileLooks) (change : OwnFiles) (old new : Table) : Type 0 where
+  pub asks : AsksFor result wanted look (looks_of_table old) (looks_of_table new)
+  pub done : IfOk result (λ b. own_of_table new ≡ (if b then change else own_of_table old))
+  pub err : OnErr result (own_of_table new ≡ own_of_table old)
+  pub refused : OnErr result (NeedsMemory (looks_of_table old) (look (looks_of_table old)) wanted)
+  pub over : StandsOver old new

@@ -5,8 +5,8 @@ use Rattle.std.specs.Option.{option_map}
 use Rattle.std.specs.Ordering.{nat_cmp, eq_by_cmp}
 use Rattle.std.specs.Cmp.Lexicographic.{slice_cmp}
 use Rattle.std.specs.FinMap.{get, entries}
-use Rattle.filenames.specs.Names.{is_sayable}
-use Rattle.directory.specs.Entries.{Shapes, is_match, next_entry, entry_bytes, position_of, count_at}
+use Rattle.hostfiles.specs.Names.{is_sayable}
+use Rattle.hostfiles.specs.Entries.{Shapes, is_match, next_entry, entry_bytes, position_of, count_at}
 use Rattle.hostfiles.specs.Hosts.{Key, Host}
 use Rattle.hostfiles.specs.File.{shape_of}
 use Rattle.hostfiles.specs.Files.{OwnFiles, has, gone_entry, shapes, file_of, entry_at}

@@ -4,24 +4,22 @@
 
 ghost use Rattle.std.specs.Prelude.{◌≡◌, true, Ok, OnErr, slice_index};
 ghost use Rattle.std.specs.Option.{option_map};
-ghost use Rattle.directory.specs.Entries.{position_of};
+ghost use Rattle.hostfiles.specs.Entries.{position_of};
 ghost use Rattle.hostfiles.specs.Files.{has, records, record_if_there, shapes};
 ghost use Rattle.hostfiles.specs.FileLooks.{look_has, look_records, look_read, look_directory, HasNewAsk};
 ghost use Rattle.hostfiles.specs.Asking.{AsksFor, Inquires};
 ghost use Rattle.hostfiles.specs.FileView.{view_own};
-ghost use Rattle.filenames.specs.Names.{is_sayable};
+ghost use Rattle.hostfiles.specs.Names.{is_sayable};
 ghost use Rattle.cpmfiles.specs.Renaming.{is_rename};
 ghost use Rattle.cpmfiles.specs.Tables.{can_make, can_rename, extent_count, look_make, look_rename, next_bytes};
 
 use crate::table::has_wildcard;
-use directory::{Position, next_entry};
-use filenames::{Key, is_sayable};
 use hostfiles::changes::Changes;
 use hostfiles::directory_view::DirectoryView;
 use hostfiles::file_view::FileView;
 use hostfiles::host::HostFiles;
 use hostfiles::looks::FileLooks;
-use records::Record;
+use hostfiles::{Key, Position, Record, is_sayable, next_entry};
 use std::alloc::AllocError;
 
 /// Returns whether there is a file with this key.
@@ -130,10 +128,7 @@ pub fn can_rename(
         (λ own. look_rename own old.now new.now) changes.old changes.new }
     ensures grows { OnErr result (is_rename old.now new.now ≡ true) }
 {
-    if has_wildcard(old) {
-        return Ok(false);
-    }
-    if !is_sayable(new) {
+    if has_wildcard(old) || !is_sayable(new) {
         return Ok(false);
     }
     let there = has(host, changes, old)?;
@@ -161,18 +156,13 @@ pub fn search(
         host,
         journal: &changes.journal,
     };
-    match next_entry(&listed, pattern, ex, last) {
-        Some(entry) => Some(entry.to_bytes()),
-        None => None,
-    }
+    let entry = next_entry(&listed, pattern, ex, last)?;
+    Some(entry.to_bytes())
 }
 
 // Returns the position of the entry that was returned last, if there is one.
 fn position_after(drive: u8, after: Option<[u8; 32]>) -> Option<Position>
     ensures { result ≡ option_map (position_of drive) after }
 {
-    match after {
-        Some(bytes) => Some(Position::from_bytes(drive, &bytes)),
-        None => None,
-    }
+    Some(Position::from_bytes(drive, &after?))
 }

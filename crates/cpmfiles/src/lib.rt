@@ -13,7 +13,8 @@ pub mod asking;
 pub mod laws;
 pub mod table;
 
-pub use filenames::{Fcb, Key, Name, NameError};
-pub use hostfiles::{Ask, Changes, FileLooks, FilesError, HostFiles, Journal};
-pub use records::{EXTENT_RECORDS, RECORD_BYTES, RECORD_LIMIT, Record, Records};
+pub use hostfiles::{
+    Ask, Changes, EXTENT_RECORDS, Fcb, FileLooks, FilesError, HostFiles, Journal, Key, Name,
+    NameError, RECORD_BYTES, RECORD_LIMIT, Record, Records,
+};
 pub use table::Table;

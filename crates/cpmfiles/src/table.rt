@@ -1,23 +1,22 @@
 // Host files together with what a run did to them.
 
-ghost use Rattle.std.specs.Prelude.{◌≡◌, ◌<◌, true, false, OnOk, OnErr, IfOk, Some, Ok, nat_lt, slice_index};
+ghost use Rattle.std.specs.Prelude.{◌≡◌, ◌<◌, true, OnOk, OnErr, IfOk, IsOk, is_some, nat_lt, slice_index, unwrap_or};
 ghost use Rattle.hostfiles.specs.Files.{has, records, length_at, record_if_there, shapes, after_make, after_rename, after_write};
 ghost use Rattle.hostfiles.specs.declared.journal.Gap.TheVariants.{Holes, Zeros};
-ghost use Rattle.hostfiles.specs.FileLooks.{look_has, look_records, look_read, look_directory, HasNewAsk, KeepsAsks};
+ghost use Rattle.hostfiles.specs.FileLooks.{look_has, look_records, look_read, look_directory};
 ghost use Rattle.hostfiles.specs.Asking.{AsksFor, Inquires};
 ghost use Rattle.cpmfiles.specs.Tables.{can_make, can_rename, extent_count, look_make, look_rename};
-ghost use Rattle.filenames.specs.Names.{is_sayable};
+ghost use Rattle.hostfiles.specs.Names.{is_sayable};
 ghost use Rattle.cpmfiles.specs.Renaming.{has_wildcard, is_rename};
 ghost use Rattle.cpmfiles.specs.Tables.{count_deleted, look_delete, NamedAreGone, next_bytes};
 ghost use Rattle.cpmfiles.specs.TableParts.{own_of_table, looks_of_table, StandsOver, DoesIf, NeedsMemory};
 
 use crate::asking;
-use filenames::Key;
 use hostfiles::changes::Changes;
 use hostfiles::directory_view::delete_matches;
 use hostfiles::host::HostFiles;
 use hostfiles::journal::Gap;
-use records::Record;
+use hostfiles::{Key, Record};
 use std::alloc::AllocError;
 
 /// Host files together with what a run did to them. Each call marks the questions that reach the host files.
@@ -68,20 +67,11 @@ impl Table<'_> {
     /// file, if `k` is not below its length, or if record `k` is a hole. An `Err` leaves `bytes` unchanged, too.
     #[tactic(auto, using(crate::proofs::LookLaws::asked_in_turn))]
     pub fn read(&mut self, key: &Key, k: u32, bytes: &mut Record) -> Result<bool, AllocError>
-        ensures found { IfOk result (λ b. b ≡ true →
-            record_if_there self.old.host.now (own_of_table self.old) key.now k ≡ Some bytes.new) }
-        ensures none { IfOk result (λ b. b ≡ false →
-            record_if_there self.old.host.now (own_of_table self.old) key.now k ≡ None) }
-        ensures not_read { IfOk result (λ b. b ≡ false → bytes.new ≡ bytes.old) }
+        ensures inquires { Inquires result (λ own. is_some (record_if_there self.old.host.now own key.now k))
+            (λ own. look_read self.old.host.now own key.now k) self.old.changes.now self.new.changes.now }
+        ensures bytes { IfOk result (λ _. bytes.new ≡ unwrap_or
+            (record_if_there self.old.host.now (own_of_table self.old) key.now k) bytes.old) }
         ensures err { OnErr result (bytes.new ≡ bytes.old) }
-        ensures looks { OnOk result (looks_of_table self.new ≡
-            look_read self.old.host.now (own_of_table self.old) key.now k (looks_of_table self.old)) }
-        ensures extends { KeepsAsks (looks_of_table self.old) (looks_of_table self.new) }
-        ensures bound { OnErr result (KeepsAsks (looks_of_table self.new)
-            (look_read self.old.host.now (own_of_table self.old) key.now k (looks_of_table self.old))) }
-        ensures refused { OnErr result (HasNewAsk (looks_of_table self.old)
-            (look_read self.old.host.now (own_of_table self.old) key.now k (looks_of_table self.old))) }
-        ensures stays { self.new.changes.now.journal ≡ self.old.changes.now.journal }
         ensures over { StandsOver self.old self.new }
     {
         let Some(record) = asking::read(self.host, self.changes, key, k)? else {
@@ -106,17 +96,9 @@ impl Table<'_> {
     /// A write past the end leaves holes between the end and the record.
     pub fn write(&mut self, key: &Key, k: u32, bytes: &Record) -> Result<bool, AllocError>
         requires { k < 65536 }
-        ensures asks { AsksFor result (has self.old.host.now (own_of_table self.old) key.now)
-            (look_records self.old.host.now (own_of_table self.old) key.now)
-            (looks_of_table self.old) (looks_of_table self.new) }
-        ensures does { DoesIf result
-            (after_write Holes (length_at self.old.host.now (own_of_table self.old) key.now)
-            (own_of_table self.old) key.now k bytes.now)
-            (own_of_table self.old) (own_of_table self.new) }
-        ensures refused { OnErr result (NeedsMemory (looks_of_table self.old)
-            (look_records self.old.host.now (own_of_table self.old) key.now (looks_of_table self.old))
-            (has self.old.host.now (own_of_table self.old) key.now)) }
-        ensures over { StandsOver self.old self.new }
+        ensures { let host = self.old.host.now in let own = own_of_table self.old in
+            DoesIf result (has host own key.now) (look_records host own key.now)
+            (after_write Holes (length_at host own key.now) own key.now k bytes.now) self.old self.new }
     {
         self.store(key, k, bytes, Gap::Holes)
     }
@@ -125,17 +107,9 @@ impl Table<'_> {
     /// A write past the end writes zeros between the end and the record.
     pub fn write_filled(&mut self, key: &Key, k: u32, bytes: &Record) -> Result<bool, AllocError>
         requires { k < 65536 }
-        ensures asks { AsksFor result (has self.old.host.now (own_of_table self.old) key.now)
-            (look_records self.old.host.now (own_of_table self.old) key.now)
-            (looks_of_table self.old) (looks_of_table self.new) }
-        ensures does { DoesIf result
-            (after_write Zeros (length_at self.old.host.now (own_of_table self.old) key.now)
-            (own_of_table self.old) key.now k bytes.now)
-            (own_of_table self.old) (own_of_table self.new) }
-        ensures refused { OnErr result (NeedsMemory (looks_of_table self.old)
-            (look_records self.old.host.now (own_of_table self.old) key.now (looks_of_table self.old))
-            (has self.old.host.now (own_of_table self.old) key.now)) }
-        ensures over { StandsOver self.old self.new }
+        ensures { let host = self.old.host.now in let own = own_of_table self.old in
+            DoesIf result (has host own key.now) (look_records host own key.now)
+            (after_write Zeros (length_at host own key.now) own key.now k bytes.now) self.old self.new }
     {
         self.store(key, k, bytes, Gap::Zeros)
     }
@@ -143,17 +117,9 @@ impl Table<'_> {
     // Writes a record, if there is a file, with this gap between the end and the record.
     fn store(&mut self, key: &Key, k: u32, bytes: &Record, gap: Gap) -> Result<bool, AllocError>
         requires { k < 65536 }
-        ensures asks { AsksFor result (has self.old.host.now (own_of_table self.old) key.now)
-            (look_records self.old.host.now (own_of_table self.old) key.now)
-            (looks_of_table self.old) (looks_of_table self.new) }
-        ensures does { DoesIf result
-            (after_write gap (length_at self.old.host.now (own_of_table self.old) key.now)
-            (own_of_table self.old) key.now k bytes.now)
-            (own_of_table self.old) (own_of_table self.new) }
-        ensures refused { OnErr result (NeedsMemory (looks_of_table self.old)
-            (look_records self.old.host.now (own_of_table self.old) key.now (looks_of_table self.old))
-            (has self.old.host.now (own_of_table self.old) key.now)) }
-        ensures over { StandsOver self.old self.new }
+        ensures { let host = self.old.host.now in let own = own_of_table self.old in
+            DoesIf result (has host own key.now) (look_records host own key.now)
+            (after_write gap (length_at host own key.now) own key.now k bytes.now) self.old self.new }
     {
         let Some(n) = self.records(key)? else {
             return Ok(false);
@@ -171,12 +137,10 @@ impl Table<'_> {
         ex: u8,
         after: Option<[u8; 32]>,
     ) -> Result<Option<[u8; 32]>, AllocError>
-        ensures answer { result ≡
-            Ok (next_bytes pattern.now ex after (shapes self.old.host.now (own_of_table self.old))) }
-        ensures looks { looks_of_table self.new
-            ≡ look_directory (slice_index pattern.now 0) (looks_of_table self.old) }
-        ensures extends { KeepsAsks (looks_of_table self.old) (looks_of_table self.new) }
-        ensures stays { self.new.changes.now.journal ≡ self.old.changes.now.journal }
+        ensures inquires { Inquires result
+            (λ own. next_bytes pattern.now ex after (shapes self.old.host.now own))
+            (λ own. look_directory (slice_index pattern.now 0)) self.old.changes.now self.new.changes.now }
+        ensures ok { IsOk result }
         ensures over { StandsOver self.old self.new }
     {
         Ok(asking::search(self.host, self.changes, pattern, ex, after))
@@ -186,15 +150,10 @@ impl Table<'_> {
     /// `false`. An invalid key is never an `Err`.
     #[tactic(auto, using(crate::proofs::LookLaws::extends_same))]
     pub fn make(&mut self, key: &Key) -> Result<bool, AllocError>
-        ensures asks { AsksFor result (can_make self.old.host.now (own_of_table self.old) key.now)
-            (look_make (own_of_table self.old) key.now) (looks_of_table self.old) (looks_of_table self.new) }
-        ensures does { DoesIf result (after_make (own_of_table self.old) key.now) (own_of_table self.old)
-            (own_of_table self.new) }
+        ensures does { let host = self.old.host.now in let own = own_of_table self.old in
+            DoesIf result (can_make host own key.now) (look_make own key.now) (after_make own key.now)
+            self.old self.new }
         ensures grows { OnErr result (is_sayable key.now ≡ true) }
-        ensures refused { OnErr result (NeedsMemory (looks_of_table self.old)
-            (look_make (own_of_table self.old) key.now (looks_of_table self.old))
-            (can_make self.old.host.now (own_of_table self.old) key.now)) }
-        ensures over { StandsOver self.old self.new }
     {
         if !asking::can_make(self.host, self.changes, key)? {
             return Ok(false);
@@ -204,63 +163,28 @@ impl Table<'_> {
     }
 
     /// Deletes each file whose key matches a pattern, and returns their number. The pattern's drive is matched exactly.
-    #[tactic(auto, using(crate::proofs::LookLaws::extends_same))]
+    #[tactic(auto, using(crate::proofs::LookLaws::extends_by_directory, crate::proofs::LookLaws::extends_same))]
     pub fn delete(&mut self, pattern: &Key) -> Result<u64, AllocError>
-        ensures asks { AsksFor result (count_deleted self.old.host.now (own_of_table self.old) pattern.now)
-            (look_delete (own_of_table self.old) pattern.now) (looks_of_table self.old)
-            (looks_of_table self.new) }
+        ensures asks { let own = own_of_table self.old in
+            AsksFor result (count_deleted self.old.host.now own pattern.now) (look_delete own pattern.now)
+            (looks_of_table self.old) (looks_of_table self.new) }
         ensures done { OnOk result
             (NamedAreGone self.old.host.now (own_of_table self.old) pattern.now (own_of_table self.new)) }
         ensures err { OnErr result (own_of_table self.new ≡ own_of_table self.old) }
-        ensures refused { OnErr result (NeedsMemory (looks_of_table self.old)
-            (look_delete (own_of_table self.old) pattern.now (looks_of_table self.old))
-            (nat_lt 0 (count_deleted self.old.host.now (own_of_table self.old) pattern.now))) }
+        ensures refused { let own = own_of_table self.old in OnErr result (NeedsMemory
+            (looks_of_table self.old) (look_delete own pattern.now (looks_of_table self.old))
+            (nat_lt 0 (count_deleted self.old.host.now own pattern.now))) }
         ensures over { StandsOver self.old self.new }
     {
         if has_wildcard(pattern) {
-            return self.delete_all(pattern);
+            self.changes.looks.mark_directory(pattern[0]);
+            return delete_matches(self.host, &mut self.changes.journal, pattern);
         }
-        self.delete_one(pattern)
-    }
-
-    // Deletes the file of a key, if there is one.
-    fn delete_one(&mut self, key: &Key) -> Result<u64, AllocError>
-        requires { has_wildcard key.now ≡ false }
-        ensures asks { AsksFor result (count_deleted self.old.host.now (own_of_table self.old) key.now)
-            (look_delete (own_of_table self.old) key.now) (looks_of_table self.old)
-            (looks_of_table self.new) }
-        ensures done { OnOk result
-            (NamedAreGone self.old.host.now (own_of_table self.old) key.now (own_of_table self.new)) }
-        ensures err { OnErr result (own_of_table self.new ≡ own_of_table self.old) }
-        ensures refused { OnErr result (NeedsMemory (looks_of_table self.old)
-            (look_delete (own_of_table self.old) key.now (looks_of_table self.old))
-            (nat_lt 0 (count_deleted self.old.host.now (own_of_table self.old) key.now))) }
-        ensures over { StandsOver self.old self.new }
-    {
-        if !self.has(key)? {
+        if !self.has(pattern)? {
             return Ok(0);
         }
-        self.changes.journal.delete(key)?;
+        self.changes.journal.delete(pattern)?;
         Ok(1)
-    }
-
-    // Deletes all files that match a pattern with `?`.
-    #[tactic(auto, using(crate::proofs::LookLaws::extends_by_directory))]
-    fn delete_all(&mut self, pattern: &Key) -> Result<u64, AllocError>
-        requires { has_wildcard pattern.now ≡ true }
-        ensures asks { AsksFor result (count_deleted self.old.host.now (own_of_table self.old) pattern.now)
-            (look_delete (own_of_table self.old) pattern.now) (looks_of_table self.old)
-            (looks_of_table self.new) }
-        ensures done { OnOk result
-            (NamedAreGone self.old.host.now (own_of_table self.old) pattern.now (own_of_table self.new)) }
-        ensures err { OnErr result (own_of_table self.new ≡ own_of_table self.old) }
-        ensures refused { OnErr result (NeedsMemory (looks_of_table self.old)
-            (look_delete (own_of_table self.old) pattern.now (looks_of_table self.old))
-            (nat_lt 0 (count_deleted self.old.host.now (own_of_table self.old) pattern.now))) }
-        ensures over { StandsOver self.old self.new }
-    {
-        self.changes.looks.mark_directory(pattern[0]);
-        delete_matches(self.host, &mut self.changes.journal, pattern)
     }
 
     /// Renames a file and returns `true` if the old key has no `?` and a file has it, and the new key is valid and no
@@ -268,17 +192,10 @@ impl Table<'_> {
     /// `Err`.
     #[tactic(auto, using(crate::proofs::LookLaws::asked_in_turn))]
     pub fn rename(&mut self, old: &Key, new: &Key) -> Result<bool, AllocError>
-        ensures asks { AsksFor result (can_rename self.old.host.now (own_of_table self.old) old.now new.now)
-            (look_rename (own_of_table self.old) old.now new.now) (looks_of_table self.old)
-            (looks_of_table self.new) }
-        ensures does { DoesIf result
-            (after_rename (own_of_table self.old) old.now new.now) (own_of_table self.old)
-            (own_of_table self.new) }
+        ensures does { let host = self.old.host.now in let own = own_of_table self.old in
+            DoesIf result (can_rename host own old.now new.now) (look_rename own old.now new.now)
+            (after_rename own old.now new.now) self.old self.new }
         ensures grows { OnErr result (is_rename old.now new.now ≡ true) }
-        ensures refused { OnErr result (NeedsMemory (looks_of_table self.old)
-            (look_rename (own_of_table self.old) old.now new.now (looks_of_table self.old))
-            (can_rename self.old.host.now (own_of_table self.old) old.now new.now)) }
-        ensures over { StandsOver self.old self.new }
     {
         if !asking::can_rename(self.host, self.changes, old, new)? {
             return Ok(false);
@@ -292,10 +209,5 @@ impl Table<'_> {
 pub fn has_wildcard(key: &Key) -> bool
     ensures { result ≡ has_wildcard key.now }
 {
-    for i in 1..12 {
-        if key[i] == b'?' {
-            return true;
-        }
-    }
-    false
+    key[1..].contains(&b'?')
 }

@@ -6,7 +6,7 @@ use Rattle.faults.specs.Faults.{file_paths}
 use Rattle.faults.specs.declared.fault.Fault.{Fault}
 use Rattle.folders.specs.Failures.{ReportsPaths}
 use Rattle.folders.specs.FileSystem.{StoredFiles}
-use Rattle.one_run.specs.World.{World, world}
+use Rattle.requests.specs.World.{World, world}
 use Rattle.requests.specs.Programs.{Does, EndsWell, Fails, FaultOf}
 use Rattle.streams.specs.Streams.{Output}
 use Rattle.cpmrun.specs.AreWords.{AreWords}

@@ -3,7 +3,7 @@ use Rattle.std.proofs.Common.{ℕ, List, Option, Some, None, inl, inr}
 use Rattle.std.specs.Borrow.{Bor}
 use Rattle.command_words.specs.declared.words.Words.{Words}
 use Rattle.faults.specs.declared.fault.Fault.{Fault}
-use Rattle.one_run.specs.World.{World}
+use Rattle.requests.specs.World.{World}
 use Rattle.replay.specs.RunnerView.{RunnerView}
 use Rattle.requests.specs.Programs.{Does, Ends, EndsWell, Fails, FaultOf}
 use Rattle.streams.specs.Streams.{Output}

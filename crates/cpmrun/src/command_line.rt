@@ -9,7 +9,7 @@ ghost use Rattle.faults.specs.Faults.{file_paths};
 ghost use Rattle.requests.specs.Programs.{Ends, EndsWell, FaultOf};
 ghost use Rattle.cpmrun.specs.Ends.{BreaksOffWith, BreaksReplay, cpmrun};
 ghost use Rattle.cpmrun.specs.MeteredEnds.{WritesReplayBy, metered, options_of};
-ghost use Rattle.one_run.specs.World.{world};
+ghost use Rattle.requests.specs.World.{world};
 ghost use Rattle.streams.specs.Streams.{Output};
 ghost use Rattle.folders.specs.FileSystem.{text_at};
 
@@ -119,7 +119,8 @@ fn run<'a, S: FileSystem, O: Writer, E: Writer>(
     let Some(path) = words.edits else {
         return run_words(system, &words, out, err);
     };
-    let session = load(system, &words.session())?.session;
+    let loaded = load(system, &words.session())?;
+    let session = loaded.into_session();
     replay_file(system, path, session, options(&words), meter, out)?;
     Ok(0)
 }

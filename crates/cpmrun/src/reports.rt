@@ -11,7 +11,7 @@ ghost use Rattle.make_rules.specs.Carried.{is_carried};
 ghost use Rattle.plan.specs.Faults.{IsAnyWriteFault};
 ghost use Rattle.plan.specs.Wanted.{wanted_of};
 ghost use Rattle.faults.specs.Faults.{file_paths};
-ghost use Rattle.cpmrun.specs.Reports as texts;
+ghost use Rattle.cpmrun.specs.Reports as reports;
 
 use command_words::Words;
 use disks::{is_one_file, report_taken};
@@ -41,7 +41,7 @@ pub fn push_paths(
     deeds: &[Deed<'_, Written<'_>>],
 ) -> Result<(), AllocError>
     ensures { OnOk result (map string_bytes paths.new.items ≡ map string_bytes paths.old.items
-        ++ texts.put_paths (map (wanted_of written_bytes) deeds.now)) }
+        ++ reports.put_paths (map (wanted_of written_bytes) deeds.now)) }
 {
     for deed in deeds {
         if let Deed::Put { path, .. } = deed {
@@ -60,7 +60,7 @@ fn targets(
     written: Vec<String>,
 ) -> Result<Vec<String>, AllocError>
     ensures { IfOk result (λ paths. map string_bytes paths.items
-        ≡ texts.targets_of words.now path.now (map string_bytes written.items)) }
+        ≡ reports.targets_of words.now path.now (map string_bytes written.items)) }
 {
     let mut targets = match words.target {
         Some(_) => Vec::new(alloc),
@@ -82,11 +82,11 @@ pub fn rule_report<'a>(
 ) -> Result<Option<Report<'a>>, AllocError>
     requires written { is_some words.now.deps ≡ true
         → list_all is_carried (map string_bytes written.items) ≡ true }
-    requires words { texts.AllowsRule words.now }
+    requires words { reports.AllowsRule words.now }
     requires run { is_some words.now.deps ≡ true
         → AreDependencies run.now.session.now run.now.looks run.now.steps run.now.cause }
-    ensures { IfOk result (λ rule. texts.IsRuleOf words.now listings.now (map string_bytes written.items)
-        run.now.session.now (option_map texts.told rule)) }
+    ensures { IfOk result (λ rule. reports.IsRuleOf words.now listings.now (map string_bytes written.items)
+        run.now.session.now (option_map reports.told rule)) }
 {
     let Some(path) = words.deps else {
         return Ok(None);
@@ -103,7 +103,7 @@ pub fn trace_report<'a>(
     session: &Session,
 ) -> Result<Option<Report<'a>>, AllocError>
     ensures { IfOk result
-        (λ trace. texts.IsTraceOf words.now session.now (option_map texts.told trace)) }
+        (λ trace. reports.IsTraceOf words.now session.now (option_map reports.told trace)) }
 {
     let Some(path) = words.trace else {
         return Ok(None);
@@ -129,9 +129,9 @@ pub fn plan_report<'p, S: FileSystem>(
 ) -> Result<Placing, Failure>
     ensures planned { IfOk result (λ placing. map (wanted_of written_bytes) plan.new.deeds.items
         ≡ map (wanted_of written_bytes) plan.old.deeds.items
-        ++ texts.report_part (texts.is_in_plan placing) (option_map texts.told report.entry.now)) }
-    ensures apart { IfOk result (λ placing. texts.is_in_plan placing ≡ false
-        → texts.IsElsewhere (option_map texts.told report.entry.now) (S.files system.old).bytes) }
+        ++ reports.report_part (reports.is_in_plan placing) (option_map reports.told report.entry.now)) }
+    ensures apart { IfOk result (λ placing. reports.is_in_plan placing ≡ false
+        → reports.IsElsewhere (option_map reports.told report.entry.now) (S.files system.old).bytes) }
     ensures fault { IfErr result (FailsBy IsAnyWriteFault) }
     ensures unchanged { KeepsFiles failure_paths result (S.files system.old) (S.files system.new) }
 {
@@ -224,7 +224,7 @@ fn check_unread<'a, S: FileSystem>(
     option: &str,
     report: Option<&str>,
 ) -> Result<(), Fault<'a>>
-    ensures fault { IfErr result (texts.IsTakenFault report.entry option.now texts.is_read) }
+    ensures fault { IfErr result (reports.IsTakenFault report.entry option.now reports.is_read) }
     ensures unchanged { KeepsFiles file_paths result (S.files system.old) (S.files system.new) }
 {
     let Some(path) = report else {
@@ -243,7 +243,7 @@ pub fn check_reports<'a, S: FileSystem>(
     words: &Words<'_>,
     listings: &[Option<Listing>; 4],
 ) -> Result<(), Fault<'a>>
-    ensures fault { IfErr result (texts.IsEarly words.now) }
+    ensures fault { IfErr result (reports.IsEarly words.now) }
     ensures unchanged { KeepsFiles file_paths result (S.files system.old) (S.files system.new) }
 {
     check_unread(system, words, listings, "--deps <FILE>", words.deps)?;
@@ -265,7 +265,7 @@ fn check_unchanged<'a, S: FileSystem>(
     option: &str,
     report: Option<&str>,
 ) -> Result<(), Fault<'a>>
-    ensures fault { IfErr result (texts.IsTakenFault report.entry option.now texts.is_changed) }
+    ensures fault { IfErr result (reports.IsTakenFault report.entry option.now reports.is_changed) }
     ensures unchanged { KeepsFiles file_paths result (S.files system.old) (S.files system.new) }
 {
     let Some(path) = report else {
@@ -284,7 +284,7 @@ pub fn check_changes<'a, S: FileSystem>(
     words: &Words<'_>,
     deeds: &[Deed<'_, Written<'_>>],
 ) -> Result<(), Fault<'a>>
-    ensures fault { IfErr result (texts.IsEarly words.now) }
+    ensures fault { IfErr result (reports.IsEarly words.now) }
     ensures unchanged { KeepsFiles file_paths result (S.files system.old) (S.files system.new) }
 {
     check_unchanged(system, deeds, "--deps <FILE>", words.deps)?;

@@ -7,13 +7,13 @@ ghost use Rattle.hostfiles.specs.Files.{files};
 ghost use Rattle.machine.specs.PlainState.{plain_run};
 ghost use Rattle.one_run.specs.Planned.{planned};
 ghost use Rattle.one_run.specs.RunTexts.{stop_status};
-ghost use Rattle.one_run.specs.World.{world};
+ghost use Rattle.requests.specs.World.{world};
 ghost use Rattle.one_run.specs.declared.planning.Turn.TheVariants.{Outside};
 ghost use Rattle.faults.specs.Faults.{file_paths};
 ghost use Rattle.requests.specs.Programs.{Does, Fails};
 ghost use Rattle.streams.specs.Streams.{Output};
 ghost use Rattle.cpmrun.specs.Reports.{AllowsRule, IsEarly, told, written_folders};
-ghost use Rattle.cpmrun.specs.RunEnds as texts;
+ghost use Rattle.cpmrun.specs.RunEnds as run_ends;
 
 use crate::reports::{
     Report, check_changes, check_reports, plan_report, push_paths, rule_report, trace_report,
@@ -33,7 +33,7 @@ use streams::Writer;
 
 // Returns whether a run that stopped by this cause changes the disks.
 fn changes_disks(words: &Words<'_>, cause: Cause) -> bool
-    ensures { result ≡ texts.changes_disks words.now cause }
+    ensures { result ≡ run_ends.changes_disks words.now cause }
 {
     words.partial || matches!(cause, Cause::WarmBoot)
 }
@@ -64,21 +64,21 @@ fn noting_of(words: &Words<'_>) -> Noting
 
 // Returns whether a drive has a disk.
 fn has_disks(words: &Words<'_>) -> bool
-    ensures { result ≡ texts.has_disks words.now }
+    ensures { result ≡ run_ends.has_disks words.now }
 {
     words.disk.iter().any(|disk| disk.is_some())
 }
 
 // Returns whether an error is that standard output could not be written.
 fn is_unwritten(fault: &Fault<'_>) -> bool
-    ensures { result ≡ texts.is_unwritten fault.now }
+    ensures { result ≡ run_ends.is_unwritten fault.now }
 {
     matches!(fault, Fault::CannotWrite)
 }
 
 // Returns the error of a run whose console text was not written in full. No disk is changed then.
 fn text_fault<'a>(words: &Words<'_>, fault: Fault<'a>) -> Fault<'a>
-    ensures { result ≡ texts.of_text words.now fault.entry }
+    ensures { result ≡ run_ends.of_text words.now fault.entry }
 {
     if is_unwritten(&fault) && has_disks(words) {
         return Fault::DiskUnchanged;
@@ -97,14 +97,14 @@ fn carry_out_plans<'p, 'a, S: FileSystem>(
     trace: &'p Option<Report<'_>>,
 ) -> Result<(), Fault<'a>>
     requires outside { let own = files changes.now.host.now changes.now.journal.now.entries in
-        texts.asked outside.deeds.items ≡ planned Outside changes.now.places changes.now.host.now own }
+        run_ends.asked outside.deeds.items ≡ planned Outside changes.now.places changes.now.host.now own }
     requires disks { let own = files changes.now.host.now changes.now.journal.now.entries in
-        texts.asked plan.deeds.items ≡ texts.disk_puts changes.now.places changes.now.host.now own }
+        run_ends.asked plan.deeds.items ≡ run_ends.disk_puts changes.now.places changes.now.host.now own }
     ensures done { let own = files changes.now.host.now changes.now.journal.now.entries in OnOk result
-        (texts.CarriesPlan changes.now.places changes.now.host.now own (option_map told rule.entry.now)
+        (run_ends.CarriesPlan changes.now.places changes.now.host.now own (option_map told rule.entry.now)
         (option_map told trace.entry.now) (S.files system.old).bytes (S.files system.new).bytes (Ok tt)) }
     ensures fault { let own = files changes.now.host.now changes.now.journal.now.entries in IfErr result
-        (texts.BreaksPlan changes.now.places changes.now.host.now own (option_map told rule.entry.now)
+        (run_ends.BreaksPlan changes.now.places changes.now.host.now own (option_map told rule.entry.now)
         (option_map told trace.entry.now) (S.files system.old).bytes (S.files system.new).bytes) }
     ensures failed { ReportsPaths file_paths result (S.files system.old) (S.files system.new) }
 {
@@ -130,13 +130,13 @@ fn finish<'a, S: FileSystem>(
     requires host { changes.now.host.now ≡ run.now.session.now.files }
     requires files { files changes.now.host.now changes.now.journal.now.entries
         ≡ (plain_run run.now.session.now).state.files }
-    requires places { texts.ArePlacesOf words.now listings.now changes.now.places }
+    requires places { run_ends.ArePlacesOf words.now listings.now changes.now.places }
     requires words { AllowsRule words.now }
     requires run { is_some words.now.deps ≡ true
         → AreDependencies run.now.session.now run.now.looks run.now.steps run.now.cause }
-    ensures done { OnOk result (texts.ChangesFiles words.now listings.now run.now.session.now
+    ensures done { OnOk result (run_ends.ChangesFiles words.now listings.now run.now.session.now
         changes.now.places (S.files system.old).bytes (S.files system.new).bytes) }
-    ensures fault { IfErr result (texts.BreaksChanges words.now listings.now run.now.session.now
+    ensures fault { IfErr result (run_ends.BreaksChanges words.now listings.now run.now.session.now
         changes.now.places (S.files system.old).bytes (S.files system.new).bytes) }
     ensures failed { ReportsPaths file_paths result (S.files system.old) (S.files system.new) }
 {
@@ -166,11 +166,11 @@ fn run_loaded<'r, 'a, S: FileSystem, O: Writer, E: Writer>(
 ) -> Result<u8, Fault<'a>>
     requires { AllowsRule words.now }
     ensures done { IfOk result (λ status. (status ≡ stop_status (plain_run loaded.now.session).cause)
-        × (texts.run words.now loaded.now.listings loaded.now.session).Does
+        × (run_ends.run words.now loaded.now.listings loaded.now.session).Does
         (world (S.files system.old) (O.output out.old) (E.output err.old))
         (world (S.files system.new) (O.output out.new) (E.output err.new))) }
     ensures fault { IfErr result (λ fault. (old new : Output) →
-        (texts.run words.now loaded.now.listings loaded.now.session).Leaves
+        (run_ends.run words.now loaded.now.listings loaded.now.session).Leaves
         (world (S.files system.old) (O.output out.old) old)
         (world (S.files system.new) (O.output out.new) new) fault) }
     ensures unreported { OnErr result (E.output err.new ≡ E.output err.old) }
@@ -230,7 +230,7 @@ fn written_folders<'a>(words: &Words<'a>) -> [Option<&'a str>; 8]
 // Checks whether a rule for make can have the paths of the words, if one is to be written.
 fn check_rule<'a>(alloc: Global, words: &Words<'a>) -> Result<(), Fault<'a>>
     ensures allowed { OnOk result (AllowsRule words.now) }
-    ensures refused { IfErr result (texts.RefusesRule words.now) }
+    ensures refused { IfErr result (run_ends.RefusesRule words.now) }
 {
     let Some(path) = words.deps else {
         return Ok(());
@@ -254,10 +254,10 @@ pub fn run_words<'a, S: FileSystem, O: Writer, E: Writer>(
     out: &mut O,
     err: &mut E,
 ) -> Result<u8, Fault<'a>>
-    ensures done { IfOk result (λ status. Does (texts.run_once words.now) status
+    ensures done { IfOk result (λ status. Does (run_ends.run_once words.now) status
         (world (S.files system.old) (O.output out.old) (E.output err.old))
         (world (S.files system.new) (O.output out.new) (E.output err.new))) }
-    ensures fault { IfErr result (λ fault. (old new : Output) → Fails (texts.run_once words.now)
+    ensures fault { IfErr result (λ fault. (old new : Output) → Fails (run_ends.run_once words.now)
         (world (S.files system.old) (O.output out.old) old)
         (world (S.files system.new) (O.output out.new) new) fault) }
     ensures unreported { OnErr result (E.output err.new ≡ E.output err.old) }

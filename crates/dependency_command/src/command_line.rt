@@ -2,7 +2,7 @@
 
 ghost use Rattle.std.specs.Prelude.{◌≡◌, ◌∷◌, [], IfErr, IfOk, OnErr, OnOk, false, map, string_bytes};
 ghost use Rattle.folders.specs.Failures.{KeepsFiles};
-ghost use Rattle.one_run.specs.World.{world};
+ghost use Rattle.requests.specs.World.{world};
 ghost use Rattle.dependencies.specs.Dependencies.{AreDependencies};
 ghost use Rattle.report_lines.specs.FirstLines.{stop_line};
 ghost use Rattle.streams.specs.Streams.{Output, WritesOrFails};

@@ -5,35 +5,56 @@ ghost use Rattle.filenames.specs.Names.{is_sayable};
 ghost use Rattle.streams.specs.Pushing.{more};
 ghost use Rattle.dependency_lines.specs.Heads.{head_text, name_text, step_line};
 
-use crate::words::push_step;
+use crate::words::{IndexFormat, push_step};
 use filenames::{Key, Name};
 use report_lines::{push_key, push_named};
 use streams::Text;
 
-/// The beginning of a line: a word, and the name that it is about, if it is about one.
+/// The beginning of a line: a word, and the name that it is about, if it is about one; and how places after it are printed.
 #[derive(Clone, Copy)]
 pub struct Head<'a> {
     /// The word, with a blank after it before a name.
     pub word: &'a [u8],
     /// The key of the name.
     pub key: Option<Key>,
+    /// How places are printed.
+    pub format: IndexFormat,
 }
 
 impl<'a> Head<'a> {
-    /// Returns the head of a line that is about no name.
+    /// Returns the head of a line that is about no name, with numbers.
     pub fn alone(word: &'a [u8]) -> Head<'a>
-        ensures { head_text result ≡ word.now }
+        ensures text { head_text result ≡ word.now }
+        ensures format { result.format ≡ IndexFormat.Number }
     {
-        Head { word, key: None }
+        Head {
+            word,
+            key: None,
+            format: IndexFormat::Number,
+        }
     }
 
-    /// Returns the head of a line about a name.
+    /// Returns the head of a line of cells.
+    pub fn of_cells(word: &'a [u8]) -> Head<'a>
+        ensures text { head_text result ≡ word.now }
+        ensures format { result.format ≡ IndexFormat.Cell }
+    {
+        Head {
+            word,
+            key: None,
+            format: IndexFormat::Cell,
+        }
+    }
+
+    /// Returns the head of a line about a name, with numbers.
     pub fn about(word: &'a [u8], key: &Key) -> Head<'a>
-        ensures { head_text result ≡ word.now ++ name_text key.now }
+        ensures text { head_text result ≡ word.now ++ name_text key.now }
+        ensures format { result.format ≡ IndexFormat.Number }
     {
         Head {
             word,
             key: Some(*key),
+            format: IndexFormat::Number,
         }
     }
 }

@@ -5,12 +5,11 @@ ghost use Rattle.report_lines.specs.FirstLines as first_lines;
 ghost use Rattle.streams.specs.Pushing.{more};
 ghost use Rattle.streams.specs.Streams.{WritesText};
 ghost use Rattle.filenames.specs.Drives.{drive_number};
-ghost use Rattle.dependency_lines.specs.Listing as texts;
+ghost use Rattle.dependency_lines.specs.Listing as listing;
 
 use crate::heads::{Head, push_step_line};
 use crate::names::{Kind, push_kind};
 use crate::places::push_places;
-use crate::words::IndexFormat;
 use dependencies::{Dependencies, Joining, StepTable, next_row};
 use filenames::Drive;
 use first_looks::{FileSteps, FirstLooks};
@@ -51,7 +50,7 @@ pub fn write_dependencies<W: Writer>(
     dependencies: &Dependencies,
 ) -> Result<(), Failed>
     ensures { WritesText (W.output writer.old) (W.output writer.new)
-        (texts.listing joining session.now dependencies.now.looks dependencies.now.cause) result }
+        (listing.listing joining session.now dependencies.now.looks dependencies.now.cause) result }
 {
     let mut text = TextOver::new(writer);
     push_asked(&mut text, joining, session, &dependencies.looks);
@@ -63,7 +62,7 @@ pub fn write_dependencies<W: Writer>(
 // Appends the lines of all that was asked for.
 fn push_asked<X: Text>(text: &mut X, joining: Joining, session: &Session, looks: &FirstLooks)
     ensures { X.pushed text.new ≡ more (X.pushed text.old)
-        (texts.asked_lines joining session.now looks.now) }
+        (listing.asked_lines joining session.now looks.now) }
 {
     push_memory(text, joining, looks);
     push_script(text, joining, session, looks);
@@ -74,55 +73,34 @@ fn push_asked<X: Text>(text: &mut X, joining: Joining, session: &Session, looks:
 // Appends the lines of page zero and of the program.
 fn push_memory<X: Text>(text: &mut X, joining: Joining, looks: &FirstLooks)
     ensures { X.pushed text.new ≡ more (X.pushed text.old)
-        (texts.memory_lines joining looks.now) }
+        (listing.memory_lines joining looks.now) }
 {
     let page = FirstIndexes {
         table: looks.cells(),
         count: PROGRAM_START,
     };
-    push_places(
-        text,
-        joining,
-        IndexFormat::Cell,
-        &Head::alone(b"page"),
-        &page,
-        0,
-    );
-    let head = Head::alone(b"program");
-    push_places(
-        text,
-        joining,
-        IndexFormat::Cell,
-        &head,
-        looks.cells(),
-        PROGRAM_START,
-    )
+    push_places(text, joining, &Head::of_cells(b"page"), &page, 0);
+    let head = Head::of_cells(b"program");
+    push_places(text, joining, &head, looks.cells(), PROGRAM_START)
 }
 
 // Appends the lines of the script and of its end.
 fn push_script<X: Text>(text: &mut X, joining: Joining, session: &Session, looks: &FirstLooks)
     ensures { X.pushed text.new ≡ more (X.pushed text.old)
-        (texts.script_lines joining session.now looks.now) }
+        (listing.script_lines joining session.now looks.now) }
 {
     let length = session.script().len();
     let bytes = FirstIndexes {
         table: looks.offsets(),
         count: length,
     };
-    push_places(
-        text,
-        joining,
-        IndexFormat::Number,
-        &Head::alone(b"script"),
-        &bytes,
-        0,
-    );
+    push_places(text, joining, &Head::alone(b"script"), &bytes, 0);
     push_step_line(text, &Head::alone(b"script end"), first_step(looks, length))
 }
 
 // Returns the step of the first row of offsets from `from` on, if there is one.
 fn first_step(looks: &FirstLooks, from: usize) -> Option<u64>
-    ensures { result ≡ texts.first_row_step looks.now from }
+    ensures { result ≡ listing.first_row_step looks.now from }
 {
     next_row(looks.offsets(), Joining::Joined, from).map(|row| row.step)
 }
@@ -130,7 +108,7 @@ fn first_step(looks: &FirstLooks, from: usize) -> Option<u64>
 // Appends the lines of files by their names.
 fn push_files<X: Text>(text: &mut X, joining: Joining, session: &Session, looks: &FirstLooks)
     ensures { X.pushed text.new ≡ more (X.pushed text.old)
-        (texts.file_lines joining session.now looks.now) }
+        (listing.file_lines joining session.now looks.now) }
 {
     let (host, asked) = (session.files(), looks.files());
     push_kind(text, joining, host, asked, Kind::There);
@@ -142,7 +120,7 @@ fn push_files<X: Text>(text: &mut X, joining: Joining, session: &Session, looks:
 // Appends the lines of the directories of the drives A to D.
 fn push_directories<X: Text>(text: &mut X, asked: &FileSteps)
     ensures { X.pushed text.new ≡ more (X.pushed text.old)
-        (texts.directory_lines asked.now) }
+        (listing.directory_lines asked.now) }
 {
     push_step_line(text, &Head::alone(b"directory A"), asked.directories[0]);
     push_step_line(text, &Head::alone(b"directory B"), asked.directories[1]);

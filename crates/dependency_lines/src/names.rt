@@ -3,12 +3,12 @@
 ghost use Rattle.std.specs.Prelude.{◌≡◌, length, option_copied, option_map};
 ghost use Rattle.keymaps.specs.Order.{IsLeastAbove};
 ghost use Rattle.streams.specs.Pushing.{more};
-ghost use Rattle.dependency_lines.specs.Names as texts;
+ghost use Rattle.dependency_lines.specs.Names as names;
 ghost use Rattle.dependency_lines.specs.Names.{is_asked, lines_of_kind, lines_of_name};
 
 use crate::heads::{Head, push_head, push_step_line};
 use crate::places::push_places;
-use crate::words::{IndexFormat, push_step};
+use crate::words::push_step;
 use dependencies::Joining;
 use first_looks::FileSteps;
 use hostfiles::{HostFile, HostFiles, Key};
@@ -96,7 +96,7 @@ fn push_name<X: Text>(
 // Appends the line of the length of a file.
 fn push_length<X: Text>(text: &mut X, file: Option<&HostFile>, step: Option<u64>, key: &Key)
     ensures { X.pushed text.new ≡ more (X.pushed text.old)
-        (texts.length_line (option_map length (option_copied file.entry)) step key.now) }
+        (names.length_line (option_map length (option_copied file.entry)) step key.now) }
 {
     let Some(step) = step else {
         return;
@@ -109,7 +109,7 @@ fn push_length<X: Text>(text: &mut X, file: Option<&HostFile>, step: Option<u64>
 // Appends the number of records of a file, after a blank.
 fn push_count<X: Text>(text: &mut X, file: Option<&HostFile>)
     ensures { X.pushed text.new ≡ more (X.pushed text.old)
-        (texts.count_text (option_map length (option_copied file.entry))) }
+        (names.count_text (option_map length (option_copied file.entry))) }
 {
     match file {
         Some(file) => {
@@ -123,17 +123,10 @@ fn push_count<X: Text>(text: &mut X, file: Option<&HostFile>)
 // Appends the lines of the records of a file.
 fn push_records<X: Text>(text: &mut X, joining: Joining, asked: &FileSteps, key: &Key)
     ensures { X.pushed text.new ≡ more (X.pushed text.old)
-        (texts.record_lines joining asked.now key.now) }
+        (names.record_lines joining asked.now key.now) }
 {
     let Some(steps) = asked.records.file(key) else {
         return;
     };
-    push_places(
-        text,
-        joining,
-        IndexFormat::Number,
-        &Head::about(b"record ", key),
-        steps,
-        0,
-    )
+    push_places(text, joining, &Head::about(b"record ", key), steps, 0)
 }

@@ -6,7 +6,7 @@ ghost use Rattle.streams.specs.Pushing.{more};
 ghost use Rattle.dependencies.specs.Rows.{rows_from};
 ghost use Rattle.dependency_lines.specs.Heads.{head_text};
 ghost use Rattle.dependency_lines.specs.Places.{earliest, joined_line, row_line, rows_text};
-ghost use Rattle.dependency_lines.specs.Words as texts;
+ghost use Rattle.dependency_lines.specs.Words as words;
 
 use crate::heads::{Head, push_head};
 use crate::words::{IndexFormat, push_row, push_step};
@@ -18,44 +18,37 @@ use streams::Text;
 pub fn push_places<X: Text, T: StepTable>(
     text: &mut X,
     joining: Joining,
-    format: IndexFormat,
     head: &Head<'_>,
     table: &T,
     from: usize,
 )
-    ensures { X.pushed text.new ≡ more (X.pushed text.old)
-        (rows_text joining format (head_text head.now) (rows_from joining (T.steps table.now) from)) }
+    ensures { let rows = rows_from joining (T.steps table.now) from in X.pushed text.new
+        ≡ more (X.pushed text.old) (rows_text joining head.now.format (head_text head.now) rows) }
 {
     match joining {
-        Joining::Joined => push_joined(text, format, head, table, from),
-        Joining::ByStep => push_each(text, format, head, table, from),
+        Joining::Joined => push_joined(text, head, table, from),
+        Joining::ByStep => push_each(text, head, table, from),
     }
 }
 
 // Appends one line for all rows.
-fn push_joined<X: Text, T: StepTable>(
-    text: &mut X,
-    format: IndexFormat,
-    head: &Head<'_>,
-    table: &T,
-    from: usize,
-)
-    ensures { X.pushed text.new ≡ more (X.pushed text.old)
-        (joined_line format (head_text head.now) (rows_from Joining.Joined (T.steps table.now) from)) }
+fn push_joined<X: Text, T: StepTable>(text: &mut X, head: &Head<'_>, table: &T, from: usize)
+    ensures { let rows = rows_from Joining.Joined (T.steps table.now) from in X.pushed text.new
+        ≡ more (X.pushed text.old) (joined_line head.now.format (head_text head.now) rows) }
 {
     let Some(first) = next_row(table, Joining::Joined, from) else {
         return;
     };
     push_head(text, head);
-    push_row(text, format, first);
-    let step = push_more(text, format, table, first);
+    push_row(text, head.format, first);
+    let step = push_more(text, head.format, table, first);
     push_step(text, step)
 }
 
 // Appends the rows after this one, and returns the least of the steps of all of them.
 fn push_more<X: Text, T: StepTable>(text: &mut X, format: IndexFormat, table: &T, first: Row) -> u64
     ensures rows { X.pushed text.new ≡ more (X.pushed text.old)
-        (concat (map (texts.row_text format) (rows_from Joining.Joined (T.steps table.now) (first.end)))) }
+        (concat (map (words.row_text format) (rows_from Joining.Joined (T.steps table.now) (first.end)))) }
     ensures least { result
         ≡ earliest first.step (rows_from Joining.Joined (T.steps table.now) (first.end)) }
 {
@@ -70,30 +63,24 @@ fn push_more<X: Text, T: StepTable>(text: &mut X, format: IndexFormat, table: &T
 }
 
 // Appends a line for each row of one step.
-fn push_each<X: Text, T: StepTable>(
-    text: &mut X,
-    format: IndexFormat,
-    head: &Head<'_>,
-    table: &T,
-    from: usize,
-)
+fn push_each<X: Text, T: StepTable>(text: &mut X, head: &Head<'_>, table: &T, from: usize)
     ensures { X.pushed text.new ≡ more (X.pushed text.old)
-        (concat (map (row_line format (head_text head.now))
+        (concat (map (row_line head.now.format (head_text head.now))
         (rows_from Joining.ByStep (T.steps table.now) from))) }
 {
     let mut from = from;
     while let Some(row) = next_row(table, Joining::ByStep, from) {
-        push_row_line(text, format, head, row);
+        push_row_line(text, head, row);
         from = row.end;
     }
 }
 
 // Appends the line of one row.
-fn push_row_line<X: Text>(text: &mut X, format: IndexFormat, head: &Head<'_>, row: Row)
+fn push_row_line<X: Text>(text: &mut X, head: &Head<'_>, row: Row)
     ensures { X.pushed text.new ≡ more (X.pushed text.old)
-        (row_line format (head_text head.now) row) }
+        (row_line head.now.format (head_text head.now) row) }
 {
     push_head(text, head);
-    push_row(text, format, row);
+    push_row(text, head.format, row);
     push_step(text, row.step)
 }

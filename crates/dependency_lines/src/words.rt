@@ -2,7 +2,7 @@
 
 ghost use Rattle.std.specs.Prelude.{◌≡◌};
 ghost use Rattle.streams.specs.Pushing.{more};
-ghost use Rattle.dependency_lines.specs.Words as texts;
+ghost use Rattle.dependency_lines.specs.Words as words;
 
 use dependencies::Row;
 use itoa::Buffer;
@@ -20,7 +20,7 @@ pub enum IndexFormat {
 
 // Appends a place.
 fn push_place<X: Text>(text: &mut X, format: IndexFormat, index: usize)
-    ensures { X.pushed text.new ≡ more (X.pushed text.old) (texts.place_text format index) }
+    ensures { X.pushed text.new ≡ more (X.pushed text.old) (words.place_text format index) }
 {
     match format {
         IndexFormat::Cell => text.push(word_digits((index % 65_536) as u16).as_bytes()),
@@ -30,7 +30,7 @@ fn push_place<X: Text>(text: &mut X, format: IndexFormat, index: usize)
 
 /// Appends a row, after a blank: its first place, and its last one if it has more.
 pub fn push_row<X: Text>(text: &mut X, format: IndexFormat, row: Row)
-    ensures { X.pushed text.new ≡ more (X.pushed text.old) (texts.row_text format row) }
+    ensures { X.pushed text.new ≡ more (X.pushed text.old) (words.row_text format row) }
 {
     text.push(b" ");
     push_place(text, format, row.first);
@@ -43,7 +43,7 @@ pub fn push_row<X: Text>(text: &mut X, format: IndexFormat, row: Row)
 
 /// Appends the end of a line: the first step, with the line's end.
 pub fn push_step<X: Text>(text: &mut X, step: u64)
-    ensures { X.pushed text.new ≡ more (X.pushed text.old) (texts.step_end step) }
+    ensures { X.pushed text.new ≡ more (X.pushed text.old) (words.step_end step) }
 {
     text.push(b" step ");
     text.push(Buffer::new().format(step).as_bytes());

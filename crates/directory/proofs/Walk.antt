@@ -10,7 +10,7 @@ use Rattle.std.specs.List.{filter, find, range_with_len, slice_get}
 use Rattle.std.specs.FinMap.{is_sorted, get, entries, entries_sorted, get-entries}
 use Rattle.std.specs.FinMap as finmap
 use Rattle.std.specs.FinMap.Entries.{below_all}
-use Rattle.filenames.specs.Names.{Key}
+use Rattle.keymaps.specs.Names.{Key}
 use Rattle.keymaps.specs.Order.{is_above, EachAbove, Skips}
 use Rattle.keymaps.specs.Walks.{IsAbsent}
 use Rattle.keymaps.proofs.Views.{same_key}

@@ -3,7 +3,7 @@
 use Rattle.std.specs.Prelude.{ℕ, ◌-◌, List, Option, Some, None, flat_map}
 use Rattle.std.specs.List.{range_with_len, filter}
 use Rattle.std.specs.FinMap.{get, entries}
-use Rattle.filenames.specs.Names.{Key}
+use Rattle.keymaps.specs.Names.{Key}
 use Rattle.keymaps.specs.Order.{is_above}
 use Rattle.directory.specs.Entries.{Shape, Shapes, count_if_any, entries_at, entries_of}
 use Rattle.directory.specs.declared.entry.Entry.{Entry}

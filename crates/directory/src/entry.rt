@@ -3,7 +3,7 @@
 ghost use Rattle.std.specs.Prelude.{◌≡◌, ◌<◌};
 ghost use Rattle.directory.specs.Entries.{entry_bytes, position_of};
 
-use filenames::Key;
+use keymaps::Key;
 
 /// A directory entry. A file has one for each extent with a record, or one for extent 0 if its length is 0.
 #[derive(Clone, Copy)]

@@ -1,16 +1,9 @@
 // Patterns of file names.
 
-ghost use Rattle.std.specs.Prelude.{◌≡◌, ◌==◌, ◌||◌};
+ghost use Rattle.std.specs.Prelude.{◌≡◌};
 ghost use Rattle.directory.specs.Entries.{is_match};
 
-use filenames::Key;
-
-// Returns whether a byte matches a pattern byte.
-fn fits(pattern: u8, byte: u8) -> bool
-    ensures { result ≡ (pattern == 63 || pattern == byte) }
-{
-    pattern == 63 || pattern == byte
-}
+use keymaps::Key;
 
 /// Returns whether a key matches a pattern: the drives are equal, and so are the bytes of the names, except for each `?` of
 /// the pattern.
@@ -22,7 +15,7 @@ pub fn is_match(pattern: &Key, key: &Key) -> bool
         return false;
     }
     for i in 1..12 {
-        if !fits(pattern[i], key[i]) {
+        if pattern[i] != b'?' && pattern[i] != key[i] {
             return false;
         }
     }

@@ -10,7 +10,7 @@ ghost use Rattle.directory.specs.Parts.{entries_from, file_entries_from, entry_w
 
 use crate::entry::{Entry, Position};
 use crate::pattern::is_match;
-use filenames::Key;
+use keymaps::Key;
 
 /// The shape of a file, as a search sees it: for each record number whether the file has a record. There may be no file.
 pub trait FileShape {

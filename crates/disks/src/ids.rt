@@ -12,9 +12,7 @@ pub fn id_at<S: FileSystem>(system: &mut S, path: &str) -> Result<Option<Id>, Fa
     ensures fault { IfErr result (FailsBy (IsReadFault path.now)) }
     ensures unchanged { KeepsFiles failure_paths result (S.files system.old) (S.files system.new) }
 {
-    let Ok(named) = String::from_str(system.alloc(), path) else {
-        return Err(Failure::OutOfMemory);
-    };
+    let named = String::from_str(system.alloc(), path)?;
     match system.id(path) {
         Ok(id) => Ok(id),
         Err(error) => Err(read_failure(error, named)),

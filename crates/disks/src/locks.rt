@@ -44,9 +44,7 @@ fn lock<S: FileSystem>(system: &mut S, folder: &str) -> Result<S::Lock, Failure>
     ensures fault { IfErr result (FailsBy (IsReadFault folder.now)) }
     ensures unchanged { KeepsFiles failure_paths result (S.files system.old) (S.files system.new) }
 {
-    let Ok(named) = String::from_str(system.alloc(), folder) else {
-        return Err(Failure::OutOfMemory);
-    };
+    let named = String::from_str(system.alloc(), folder)?;
     match system.lock(folder) {
         Ok(lock) => Ok(lock),
         Err(error) => Err(read_failure(error, named)),

@@ -65,9 +65,7 @@ fn is_read_from<S: FileSystem>(
 {
     let mut after: Option<Key> = None;
     while let Some((key, file)) = listing.files.next_key_value(after) {
-        let Ok(path) = path_in(system.alloc(), folder, file.as_str()) else {
-            return Err(Failure::OutOfMemory);
-        };
+        let path = path_in(system.alloc(), folder, file.as_str())?;
         if id_at(system, path.as_str())? == Some(id) {
             return Ok(true);
         }

@@ -12,7 +12,8 @@ use Rattle.faults.specs.declared.fault.Message.{Message}
 use Rattle.faults.specs.declared.fault.Message.TheVariants.{Fixed, Made}
 use Rattle.faults.specs.declared.tool.Tool.{Tool}
 use Rattle.faults.specs.declared.tool.Tool.TheVariants.{Cpmrun, Cpmdeps, Cpmtrace}
-use Rattle.report_lines.specs.FirstLines.{byte_text, line}
+use Rattle.mnemonics.specs.Mnemonics.{digits}
+use Rattle.streams.specs.Lines.{line}
 use Rattle.streams.specs.Streams.{Output, WritesOrFails, WritesPart, WritesWhole}
 
 -- The error of a program for a failure of the file system.
@@ -45,7 +46,7 @@ shown_byte b =
     if b == 13 then codes "\\r"
     else if b == 10 then codes "\\n"
     else if b == 9 then codes "\\t"
-    else if nat_le b 0x1f || b == 0x7f then codes "\\x" ++ byte_text b
+    else if nat_le b 0x1f || b == 0x7f then codes "\\x" ++ digits b
     else b ∷ []
 
 abbrev pub shown : List ℕ → List ℕ
@@ -82,7 +83,7 @@ message_of tool OutOfMemory = message_line tool (codes "out of memory")
 
 -- The bytes of a message.
 abbrev pub bytes_of : Message → List ℕ
-bytes_of (Fixed text) = text.now
+bytes_of (Fixed before name after) = before.now ++ name.now ++ after.now
 bytes_of (Made text) = text.items
 
 -- What was written of a text before an error: a prefix of it, if writing it or an allocation failed.

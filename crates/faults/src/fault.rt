@@ -1,12 +1,13 @@
 ghost use Rattle.std.specs.Prelude.{◌≡◌, IfOk, IfErr, string_bytes};
 ghost use Rattle.faults.specs.Faults.{ReportsFaultOrMemory, bytes_of, message_line, value_text};
+ghost use Rattle.streams.specs.Pushing.{more};
 ghost use Rattle.streams.specs.Streams.{WritesOrFails};
 
 use crate::shown::message_line;
 use crate::tool::Tool;
 use folders::Failure;
 use std::alloc::{AllocError, Global};
-use streams::{Failed, Writer, write_all};
+use streams::{Failed, Text, TextOver, Writer};
 
 /// The error with which a program ends, if its status is 1, 2 or 12.
 #[derive(Drop)]
@@ -73,11 +74,24 @@ impl From<Failed> for Fault<'_> {
     }
 }
 
+// The message of `clap` for a word that is not UTF-8, around the name of the program. The command lines take only strings, so `clap` never
+// returns it.
+const NOT_TEXT: &str = "error: invalid UTF-8 was detected in one or more arguments\n\nUsage: ";
+
+const AFTER_USAGE: &str = " [OPTIONS] <PROGRAM> [TAIL]\n\nFor more information, try '--help'.\n";
+
+// The messages that need no memory, after the name of the program.
+const UNWRITTEN: &str = ": cannot write standard output\n";
+
+const UNCHANGED: &str = ": cannot write standard output\ndisk unchanged\n";
+
+const NO_MEMORY: &str = ": out of memory\n";
+
 /// The message of an error, each of its lines with its 0AH.
 #[derive(Drop)]
 enum Message<'s> {
-    /// One that needs no memory.
-    Fixed(&'s str),
+    /// Three texts one after another, which need no memory.
+    Fixed(&'s str, &'s str, &'s str),
     /// One with a path, name or number in it.
     Made(Vec<u8>),
 }
@@ -85,12 +99,17 @@ enum Message<'s> {
 impl Message<'_> {
     ghost use Rattle.faults.specs.Faults.{bytes_of};
 
-    fn as_bytes(&self) -> &[u8]
-        ensures { result.now ≡ bytes_of self.now }
+    // Appends the message.
+    fn push<X: Text>(&self, text: &mut X)
+        ensures { X.pushed text.new ≡ more (X.pushed text.old) (bytes_of self.now) }
     {
         match self {
-            Message::Fixed(text) => text.as_bytes(),
-            Message::Made(text) => text.as_slice(),
+            Message::Fixed(before, name, after) => {
+                text.push(before.as_bytes());
+                text.push(name.as_bytes());
+                text.push(after.as_bytes());
+            }
+            Message::Made(message) => text.push(message.as_slice()),
         }
     }
 }
@@ -115,12 +134,13 @@ impl Fault<'_> {
         ensures made { IfOk result (λ message. bytes_of message ≡ message_of tool self.now) }
         ensures memory { IfErr result (λ _. NamesAValue self.now) }
     {
+        let name = tool.name();
         match self {
-            Fault::Usage(text) => Ok(Message::Fixed(text.as_str())),
-            Fault::NotText => Ok(Message::Fixed(tool.not_text())),
-            Fault::CannotWrite => Ok(Message::Fixed(tool.cannot_write())),
-            Fault::DiskUnchanged => Ok(Message::Fixed(tool.disk_unchanged())),
-            Fault::OutOfMemory => Ok(Message::Fixed(tool.out_of_memory())),
+            Fault::Usage(text) => Ok(Message::Fixed(text.as_str(), "", "")),
+            Fault::NotText => Ok(Message::Fixed(NOT_TEXT, name, AFTER_USAGE)),
+            Fault::CannotWrite => Ok(Message::Fixed("", name, UNWRITTEN)),
+            Fault::DiskUnchanged => Ok(Message::Fixed("", name, UNCHANGED)),
+            Fault::OutOfMemory => Ok(Message::Fixed("", name, NO_MEMORY)),
             Fault::BadEscape(text) => {
                 let mistake = "unknown escape after a backslash";
                 let text = value_text(alloc, text, "--typed <TEXT>", mistake)?;
@@ -171,11 +191,14 @@ pub fn value_text(
     )
 }
 
-/// Writes a text. A failure of the writer is ignored.
-fn write_message<E: Writer>(err: &mut E, text: &[u8])
-    ensures { WritesOrFails (E.output err.old) (E.output err.new) text.now }
+/// Writes a message. A failure of the writer is ignored.
+fn write_message<E: Writer>(err: &mut E, message: &Message<'_>)
+    ensures { WritesOrFails (E.output err.old) (E.output err.new) (bytes_of message.now) }
 {
-    let _ = write_all(err, text);
+    let mut text = TextOver::new(err);
+    message.push(&mut text);
+    text.flush();
+    let _ = text.finish();
 }
 
 /// Writes the message of an error of a program and returns the status. If there is no memory to put a path, name or number into
@@ -185,11 +208,11 @@ pub fn report_fault<E: Writer>(alloc: Global, tool: Tool, fault: Fault<'_>, err:
 {
     match fault.message(alloc, tool) {
         Ok(message) => {
-            write_message(err, message.as_bytes());
+            write_message(err, &message);
             fault.status()
         }
         Err(AllocError) => {
-            write_message(err, tool.out_of_memory().as_bytes());
+            write_message(err, &Message::Fixed("", tool.name(), NO_MEMORY));
             Fault::OutOfMemory.status()
         }
     }

@@ -4,7 +4,7 @@ ghost use Rattle.std.specs.Prelude.{◌≡◌, ◌++◌, IfOk, OnOk};
 ghost use Rattle.faults.specs.Faults.{message_line, shown, shown_byte};
 
 use crate::tool::Tool;
-use report_lines::byte_digits;
+use mnemonics::byte_digits;
 use std::alloc::{AllocError, Global};
 
 // Appends a byte, or its escape if it is a control character.

@@ -6,10 +6,10 @@ use Rattle.std.specs.Cmp.Lexicographic.{slice_cmp, nat_list_cmp_total}
 use Rattle.std.specs.FinMap.{get, entries, get-insert, get-entries, same_map}
 use Rattle.std.specs.FinMap.Entries.{is_some-find}
 use Rattle.std.proofs.lemmas.Map.Views.{any-filter_same}
-use Rattle.filenames.specs.Drives.{drive_number}
+use Rattle.hostfiles.specs.Drives.{drive_number}
 use Rattle.hostfiles.proofs.Views.{same_key, key_of}
-use Rattle.directory.proofs.Walk.{is_later}
-use Rattle.directory.specs.Entries.{Listing, is_match, fits_name}
+use Rattle.hostfiles.proofs.Walk.{is_later}
+use Rattle.hostfiles.specs.Entries.{Listing, is_match, fits_name}
 use Rattle.hostfiles.specs.Hosts.{Key, Host}
 use Rattle.hostfiles.specs.Files.{OwnFiles, has, gone_entry, after_delete, shapes}
 use Rattle.hostfiles.specs.FileLooks.{look_has, look_directory, HasNewAsk, KeepsAsks}

@@ -3,10 +3,10 @@ use Rattle.std.proofs.Common.{◌≡◌, ℕ, Bool, true, false, cond, ◌&&◌,
 use Rattle.std.specs.List.{filter, find}
 use Rattle.std.specs.FinMap.{entries}
 use Rattle.std.proofs.Math.Bool.{and-false}
-use Rattle.directory.specs.Entries.{Shape, Shapes, Listing, listing_entries, next_among, entries_of, is_after, matches, is_match, fits_name, next_entry}
-use Rattle.directory.specs.declared.entry.Entry.{Entry}
-use Rattle.directory.specs.declared.entry.Position.{Position}
-use Rattle.directory.proofs.Walk.{or_else, alike_of, first_append}
+use Rattle.hostfiles.specs.Entries.{Shape, Shapes, Listing, listing_entries, next_among, entries_of, is_after, matches, is_match, fits_name, next_entry}
+use Rattle.hostfiles.specs.Entry.{Entry}
+use Rattle.hostfiles.specs.Position.{Position}
+use Rattle.hostfiles.proofs.Walk.{or_else, alike_of, first_append}
 use Rattle.hostfiles.specs.Hosts.{Key}
 use Rattle.file_calls.specs.FileQuestions.{is_on, files_on}
 

@@ -1,7 +1,7 @@
 -- No look is lost, and a call that fails has only looks of the whole tree.
 use Rattle.std.proofs.Common.{◌≡◌, ◌==◌, true, List, [], ◌∷◌, length, nat_lt, slice_index, refl}
 use Rattle.interaction_trees.specs.Tree.{questions_of}
-use Rattle.filenames.specs.ControlBlock.{place_of, random_place_of}
+use Rattle.hostfiles.specs.ControlBlock.{place_of, random_place_of}
 use Rattle.hostfiles.specs.Hosts.{Host}
 use Rattle.hostfiles.specs.Files.{OwnFiles, has}
 use Rattle.hostfiles.specs.FileLooks.{HasNewAsk, KeepsAsks, look_has, look_length, look_content}

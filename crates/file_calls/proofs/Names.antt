@@ -10,8 +10,8 @@ use Rattle.std.specs.FinMap.{get, entries, entries_sorted, get-entries, get-from
 use Rattle.std.specs.FinMap.Entries.{find, find-where_key, is_sorted-where_key, same_entries}
 use Rattle.std.specs.declared.cmp.Ordering.TheVariants.{Equal}
 use Rattle.hostfiles.proofs.Views.{same_key}
-use Rattle.directory.specs.Entries.{Shape}
-use Rattle.records.specs.Records.{zeros}
+use Rattle.hostfiles.specs.Entries.{Shape}
+use Rattle.hostfiles.specs.Records.{zeros}
 use Rattle.hostfiles.specs.Hosts.{Key, Record, Host}
 use Rattle.hostfiles.specs.Files.{OwnFiles, entry_at, host_records, base_key, is_there, file_of, shape_at, shapes}
 use Rattle.hostfiles.specs.File.{shape_of}

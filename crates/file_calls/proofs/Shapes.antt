@@ -5,7 +5,7 @@ use Rattle.std.proofs.lemmas.List.FromFn.{length-range_with_len}
 use Rattle.std.specs.List.{range_with_len}
 use Rattle.std.specs.declared.alloc.AllocError.{AllocError}
 use Rattle.interaction_trees.specs.Tree.{Query, Return}
-use Rattle.directory.specs.Entries.{count_at}
+use Rattle.hostfiles.specs.Entries.{count_at}
 use Rattle.hostfiles.specs.Hosts.{Key, Host}
 use Rattle.hostfiles.specs.Files.{OwnFiles, length_at, record_or_hole, file_of, entry_at}
 use Rattle.hostfiles.specs.File.{shape_of}

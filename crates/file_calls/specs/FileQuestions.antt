@@ -3,7 +3,7 @@ use Rattle.std.specs.Prelude.{ℕ, ◌==◌, Bool, Option, slice_index}
 use Rattle.std.specs.List.{filter}
 use Rattle.std.specs.FinMap.{entries}
 use Rattle.interaction_trees.specs.Tree.{Tree}
-use Rattle.directory.specs.Entries.{Shape, Shapes, Listing}
+use Rattle.hostfiles.specs.Entries.{Shape, Shapes, Listing}
 use Rattle.hostfiles.specs.Hosts.{Key, Record}
 
 -- Whether there is a file with this key; the shape of a file, which says for each record number whether there is a record; the

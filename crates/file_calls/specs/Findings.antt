@@ -2,12 +2,12 @@
 -- values of the calls, and files with holes, are this project's profile.)
 use Rattle.std.specs.Prelude.{ℕ, ◌+◌, ◌/◌, ◌==◌, ◌&&◌, Bool, true, false, not, List, [], ◌∷◌, length, filter, map, Option, Some, None, nat_lt, if◌then◌else◌, slice_index}
 use Rattle.interaction_trees.specs.Tree.{Return, Query}
-use Rattle.filenames.specs.Drives.{drive_number}
-use Rattle.filenames.specs.Names.{is_sayable}
-use Rattle.filenames.specs.ControlBlock.{name_at, place_of, random_place_of}
-use Rattle.directory.specs.Entries.{Shape, Listing, count_at, next_among, position_of, entry_bytes, is_match}
-use Rattle.directory.specs.declared.entry.Entry.{Entry}
-use Rattle.directory.specs.declared.entry.Position.{Position}
+use Rattle.hostfiles.specs.Drives.{drive_number}
+use Rattle.hostfiles.specs.Names.{is_sayable}
+use Rattle.hostfiles.specs.ControlBlock.{name_at, place_of, random_place_of}
+use Rattle.hostfiles.specs.Entries.{Shape, Listing, count_at, next_among, position_of, entry_bytes, is_match}
+use Rattle.hostfiles.specs.Entry.{Entry}
+use Rattle.hostfiles.specs.Position.{Position}
 use Rattle.hostfiles.specs.Hosts.{Key, Record}
 use Rattle.hostfiles.specs.declared.journal.Gap.{Gap}
 use Rattle.hostfiles.specs.declared.journal.Gap.TheVariants.{Holes, Zeros}
@@ -15,7 +15,7 @@ use Rattle.cpmfiles.specs.Renaming.{has_wildcard, is_rename}
 use Rattle.file_calls.specs.declared.block.Block.{Block}
 use Rattle.file_calls.specs.declared.function.FileFunction.{FileFunction}
 use Rattle.file_calls.specs.declared.function.FileFunction.TheVariants.{Open, Close, SearchFirst, ReadSequential, WriteSequential, Make, Rename, ReadRandom, WriteRandom, FileSize, SetRandomRecord, WriteRandomZeroFill}
-use Rattle.directory.specs.declared.entry.Search.{Search}
+use Rattle.hostfiles.specs.Search.{Search}
 use Rattle.file_calls.specs.declared.finding.Write.{Write}
 use Rattle.file_calls.specs.declared.finding.Finding.{Finding}
 use Rattle.file_calls.specs.declared.finding.Finding.TheVariants as finding
@@ -147,15 +147,9 @@ finding_of WriteRandomZeroFill b = write_random Zeros b
 
 -- The number of bytes of its control block that a call reads: 36 if it has a random record number, else 33.
 abbrev pub block_length : FileFunction → ℕ
-block_length Open = 33
-block_length Close = 33
-block_length SearchFirst = 33
-block_length ReadSequential = 33
-block_length WriteSequential = 33
-block_length Make = 33
-block_length Rename = 33
 block_length ReadRandom = 36
 block_length WriteRandom = 36
 block_length FileSize = 36
 block_length SetRandomRecord = 36
 block_length WriteRandomZeroFill = 36
+block_length function = 33

@@ -4,8 +4,8 @@ use Rattle.std.specs.Prelude.{◌≡◌, ℕ, ◌≤◌, Bool, true, false, ◌&
 use Rattle.std.specs.List.{range_with_len}
 use Rattle.std.specs.FinMap.{get, contains_key, entries, from_entries}
 use Rattle.interaction_trees.specs.Tree.{Tree, Return, Query}
-use Rattle.directory.specs.Entries.{Shape}
-use Rattle.records.specs.Records.{zeros}
+use Rattle.hostfiles.specs.Entries.{Shape}
+use Rattle.hostfiles.specs.Records.{zeros}
 use Rattle.hostfiles.specs.Hosts.{Key, Record, Host}
 use Rattle.hostfiles.specs.Files.{OwnFiles, entry_at, length_at, base_records, base_key, host_records, is_host_part, length_by, shapes}
 use Rattle.hostfiles.specs.declared.journal.Base.{Base}

@@ -1,7 +1,7 @@
 -- The answers of the files that a run sees, and the questions that reach the host files for them. (This project's own.)
 use Rattle.std.specs.Prelude.{List, [], ◌∷◌}
 use Rattle.std.specs.Borrow.{GName}
-use Rattle.directory.specs.Entries.{Shape}
+use Rattle.hostfiles.specs.Entries.{Shape}
 use Rattle.hostfiles.specs.Hosts.{Key, Host}
 use Rattle.hostfiles.specs.Files.{OwnFiles, has, file_of, record_or_hole, entry_at, shapes}
 use Rattle.hostfiles.specs.File.{shape_of}

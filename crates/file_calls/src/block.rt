@@ -1,8 +1,8 @@
 ghost use Rattle.std.specs.Prelude.{◌≡◌, ◌∷◌};
-ghost use Rattle.filenames.specs.Drives.{drive_number};
+ghost use Rattle.hostfiles.specs.Drives.{drive_number};
 ghost use Rattle.file_calls.specs.Findings.{key_of, new_key_of};
 
-use filenames::{Drive, Fcb, Key};
+use hostfiles::{Drive, Fcb, Key};
 
 /// A file control block with the drive that it is for.
 #[derive(Clone, Copy)]

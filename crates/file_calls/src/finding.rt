@@ -1,6 +1,5 @@
 use cpmfiles::{Key, Record};
-use directory::Search;
-use hostfiles::Gap;
+use hostfiles::{Gap, Search};
 
 /// What a file call found, which says what it is to do.
 #[derive(Clone, Copy)]

@@ -6,8 +6,8 @@ ghost use Rattle.file_calls.specs.Asks.{Asks, is_asking};
 use crate::block::Block;
 use crate::finding::Finding;
 use crate::inquiry::{
-    close_file, file_size, make_file, open_file, read_random, read_sequential, rename_file,
-    search_first, set_random, write_random, write_sequential,
+    close_file, file_size, make_file, open_file, read_random, read_sequential, rename_file, search,
+    write_random, write_sequential,
 };
 use cpmfiles::{Changes, HostFiles};
 use hostfiles::Gap;
@@ -60,6 +60,7 @@ impl FileFunction {
 
     /// Asks the call's questions about the files, and returns what it finds. `Err` means out of memory; a call that asks
     /// nothing is never an `Err`.
+    #[tactic(auto, using(crate::proofs::Extending::extends_same))]
     #[inline(never)]
     pub fn inquire(
         self,
@@ -74,7 +75,9 @@ impl FileFunction {
         match self {
             FileFunction::Open => open_file(host, changes, block),
             FileFunction::Close => close_file(host, changes, block),
-            FileFunction::SearchFirst => Ok(search_first(host, changes, block)),
+            FileFunction::SearchFirst => {
+                Ok(search(host, changes, &block.key(), block.fcb.ex(), None))
+            }
             FileFunction::ReadSequential => read_sequential(host, changes, block),
             FileFunction::WriteSequential => write_sequential(host, changes, block),
             FileFunction::Make => make_file(host, changes, block),
@@ -82,7 +85,7 @@ impl FileFunction {
             FileFunction::ReadRandom => read_random(host, changes, block),
             FileFunction::WriteRandom => write_random(host, changes, block, Gap::Holes),
             FileFunction::FileSize => file_size(host, changes, block),
-            FileFunction::SetRandomRecord => Ok(set_random(host, changes, block)),
+            FileFunction::SetRandomRecord => Ok(Finding::RandomPlace(block.fcb.place())),
             FileFunction::WriteRandomZeroFill => write_random(host, changes, block, Gap::Zeros),
         }
     }

@@ -4,7 +4,7 @@
 
 ghost use Rattle.std.specs.Prelude.{◌≡◌, slice_index, length, true, IfOk, OnErr, Ok};
 ghost use Rattle.std.specs.Option.{option_map};
-ghost use Rattle.directory.specs.Entries.{position_of, count_at};
+ghost use Rattle.hostfiles.specs.Entries.{position_of, count_at};
 ghost use Rattle.hostfiles.specs.FileLooks.{look_length, HasNewAsk};
 ghost use Rattle.hostfiles.specs.FileView.{view_own};
 ghost use Rattle.hostfiles.specs.Asking.{AsksFor};
@@ -17,8 +17,7 @@ ghost use Rattle.file_calls.specs.Asks.{Asks, is_asking};
 use crate::block::Block;
 use crate::finding::{Finding, Write};
 use cpmfiles::{Changes, EXTENT_RECORDS, FileLooks, HostFiles, Key, RECORD_LIMIT, asking};
-use directory::Search;
-use hostfiles::{FileView, Gap};
+use hostfiles::{FileView, Gap, Search};
 use std::alloc::AllocError;
 
 // Returns the length of a file in records, holes included.
@@ -75,14 +74,6 @@ pub fn close_file(
     Ok(Finding::Value(0))
 }
 
-/// Finds the first matching entry of the directory (function 17). Allocates nothing.
-pub fn search_first(host: &HostFiles, changes: &mut Changes, block: &Block) -> Finding
-    ensures asks { Asks (calls.search_first block.now) host.now changes.old (Ok result) changes.new }
-    ensures apart { HasDistinctKeys result }
-{
-    search(host, changes, &block.key(), block.fcb.ex(), None)
-}
-
 /// Finds the first matching entry after the one that was returned last, in the current files (function 18). Without a
 /// search it asks nothing and finds no entry. Allocates nothing.
 #[tactic(auto, using(crate::proofs::Extending::extends_same))]
@@ -97,10 +88,10 @@ pub fn search_next(host: &HostFiles, changes: &mut Changes, last: Option<Search>
     }
 }
 
-// Finds the first matching entry, after the given entry if there is one.
+/// Finds the first matching entry of the directory, after the given entry if there is one. Allocates nothing.
 #[tactic(auto, using(crate::proofs::Drives::same_entry))]
 #[inline(always)]
-fn search(
+pub fn search(
     host: &HostFiles,
     changes: &mut Changes,
     pattern: &Key,
@@ -294,13 +285,4 @@ pub fn file_size(
         Some(places) => Ok(Finding::Length(places)),
         None => Ok(Finding::NoLength),
     }
-}
-
-/// Finds the random record number: the sequential one (function 36). Asks nothing and allocates nothing.
-#[tactic(auto, using(crate::proofs::Extending::extends_same))]
-pub fn set_random(host: &HostFiles, changes: &mut Changes, block: &Block) -> Finding
-    ensures asks { Asks (calls.set_random block.now) host.now changes.old (Ok result) changes.new }
-    ensures apart { HasDistinctKeys result }
-{
-    Finding::RandomPlace(block.fcb.place())
 }

@@ -18,6 +18,7 @@ mod inquiry;
 mod laws;
 
 pub use block::Block;
+pub use cpmfiles::Table;
 pub use delete::delete_files;
 pub use finding::{Finding, Write};
 pub use function::FileFunction;

@@ -4,7 +4,7 @@ ghost use Rattle.std.specs.Prelude.{◌≡◌, ◌<◌, ◌≤◌, ◌++◌, ◌
 ghost use Rattle.std.specs.Option.{option_map};
 ghost use Rattle.filenames.specs.Drives.{drive_number};
 ghost use Rattle.std.specs.List.{before_first};
-ghost use Rattle.filenames.specs.Names.{name_of, name_without_drive, key_or_refusal, key_of, drive_of, drive_text, is_sayable, display_text, type_text, dot_text};
+ghost use Rattle.filenames.specs.Names.{name_of, name_without_drive, key_of, drive_of, drive_text, is_sayable, display_text, type_text, dot_text};
 ghost use Rattle.filenames.specs.Names.{is_blank, name_field, type_field, ParsesBack, NamesAreSayable};
 
 use crate::drive::Drive;
@@ -106,31 +106,18 @@ impl Name {
     }
 
     // Parses a text without a drive letter as a name on a drive.
+    #[tactic(auto, unfolding(crate::specs::Names::key_or_refusal))]
     fn on_drive(drive: Drive, text: &[u8]) -> Result<Name, NameError>
         ensures { IsParsedAs (name_without_drive (drive_number drive) text.now) result }
     {
         let (name, kind) = split_at_dot(text);
-        Name::from_fields(drive, name, kind)
-    }
-
-    // Creates the name with this name and type on a drive.
-    #[tactic(auto, unfolding(crate::specs::Names::key_or_refusal))]
-    fn from_fields(drive: Drive, name: &[u8], kind: &[u8]) -> Result<Name, NameError>
-        ensures { IsParsedAs (key_or_refusal (drive_number drive) name.now kind.now) result }
-    {
         if name.is_empty() {
             return Err(NameError::Empty);
         }
-        if name.len() > 8 {
+        if name.len() > 8 || kind.len() > 3 {
             return Err(NameError::TooLong);
         }
-        if kind.len() > 3 {
-            return Err(NameError::TooLong);
-        }
-        if !all_allowed(name) {
-            return Err(NameError::BadByte);
-        }
-        if !all_allowed(kind) {
+        if !all_allowed(name) || !all_allowed(kind) {
             return Err(NameError::BadByte);
         }
         Ok(Name {
@@ -225,16 +212,7 @@ impl fmt::Display for Name {
 pub fn is_sayable(key: &Key) -> bool
     ensures { result ≡ is_sayable key.now }
 {
-    if key[0] >= 4 {
-        return false;
-    }
-    if !is_allowed(key[1]) {
-        return false;
-    }
-    if !is_field(&key[1..9]) {
-        return false;
-    }
-    is_field(&key[9..12])
+    key[0] < 4 && is_allowed(key[1]) && is_field(&key[1..9]) && is_field(&key[9..12])
 }
 
 // Returns the letter and `:` of a drive, or an empty text for drive A.

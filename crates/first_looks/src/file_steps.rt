@@ -66,19 +66,6 @@ impl FileSteps {
         if self.get(ask).is_some() {
             return Ok(());
         }
-        self.enter(ask, step)
-    }
-
-    // Notes a step for a question that has none.
-    fn enter(&mut self, ask: &Ask, step: u64) -> Result<(), AllocError>
-        requires held { step < 4294967295 }
-        requires latest { self.old.records.latest ≤ step }
-        requires none { step_of_ask self.old ask.now ≡ None }
-        ensures ok { OnOk result (NotesStep self.old ask.now step self.new) }
-        ensures err { OnErr result (SameSteps self.old self.new) }
-        ensures latest { self.new.records.latest ≤ step }
-        ensures refusal { OnErr result (NoteMayFail self.old ask.now) }
-    {
         match *ask {
             Ask::Has(key) => self.has.insert(key, step),
             Ask::Length(key) => self.lengths.insert(key, step),

@@ -83,7 +83,13 @@ impl FirstSteps {
         ensures refused { OnErr result (step_in self.old.entries index ≡ None) }
         ensures latest { self.new.latest ≤ step }
     {
-        enter(&mut self.steps, &mut self.looks, index, step as u32)
+        grow_past(&mut self.steps, index)?;
+        if self.steps[index] == NO_STEP {
+            let step = step as u32;
+            self.looks.push(Look { index, step })?;
+            self.steps[index] = step;
+        }
+        Ok(())
     }
 
     /// Erases every step from `from` on. Visits only the erased steps and allocates nothing.
@@ -95,31 +101,6 @@ impl FirstSteps {
     {
         erase_from(&mut self.steps, &mut self.looks, from);
     }
-}
-
-// Notes a step at an index, unless the index has one.
-fn enter(
-    steps: &mut Vec<u32>,
-    looks: &mut Vec<Look>,
-    index: usize,
-    step: u32,
-) -> Result<(), AllocError>
-    requires held { step < 4294967295 }
-    requires latest { latest_of looks.old.items ≤ step }
-    requires order { IsInOrder steps.old.items looks.old.items }
-    ensures ok { OnOk result ((k : ℕ) → step_at steps.new.items k
-        ≡ or_else (step_at steps.old.items k) (step_if (k == index) step)) }
-    ensures err { OnErr result ((k : ℕ) → step_at steps.new.items k ≡ step_at steps.old.items k) }
-    ensures refused { OnErr result (step_at steps.old.items index ≡ None) }
-    ensures latest { latest_of looks.new.items ≤ step }
-    ensures order { IsInOrder steps.new.items looks.new.items }
-{
-    grow_past(steps, index)?;
-    if steps[index] == NO_STEP {
-        looks.push(Look { index, step })?;
-        steps[index] = step;
-    }
-    Ok(())
 }
 
 // Makes room for the step of an index, and changes no step.

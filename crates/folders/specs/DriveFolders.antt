@@ -23,11 +23,9 @@ ListsDrive stored names drive (Some folder) None = ⊥
 ListsDrive stored names drive (Some folder) (Some listing) = HasNames stored names drive folder listing
 
 -- The same for each of the four drives, if the files are known.
-abbrev pub ListsDrives : FileBytes → (Path → List Path) → List (Option (Bor Path)) → List (Option Listing) → Type 0
-ListsDrives stored names folders found = (drive : ℕ) → drive < 4 → ListsDrive stored names drive (folder_of folders drive) (get_or found drive None)
-
 abbrev pub AreListings : StoredFiles → List (Option (Bor Path)) → List (Option Listing) → Type 0
-AreListings files folders found = IfSome files.bytes (λ stored. ListsDrives stored files.names folders found)
+AreListings files folders found =
+    IfSome files.bytes (λ stored. (drive : ℕ) → drive < 4 → ListsDrive stored files.names drive (folder_of folders drive) (get_or found drive None))
 
 -- A folder and the names in it.
 abbrev pub seen : Option DriveFolder → Option (Path × Listing)

@@ -1,5 +1,5 @@
 -- What a file system stores, and what its calls do to it. (This project's own.)
-use Rattle.std.specs.Prelude.{◌≡◌, ◌≢◌, ◌⊎◌, ℕ, Bool, true, false, List, Contains, take, Option, Some, None, IsSome, ⊤}
+use Rattle.std.specs.Prelude.{◌≡◌, ◌⊎◌, ℕ, Bool, true, false, List, Contains, take, Option, Some, None, IsSome, ⊤}
 use Rattle.std.specs.Option.{option_and_then}
 use Rattle.std.specs.Ordering.{nat_cmp}
 use Rattle.std.specs.Cmp.Lexicographic.{slice_cmp}
@@ -44,11 +44,6 @@ ReadsFile (Some files) path n got = (all : List ℕ) × (get files path ≡ Some
 abbrev pub Becomes : Option FileBytes → Option FileBytes → (FileBytes → FileBytes) → Type 0
 Becomes None after change = ⊤
 Becomes (Some files) after change = after ≡ Some (change files)
-
--- If the files are known, they change at this path alone, and stay known.
-abbrev pub ChangesAt : Path → Option FileBytes → Option FileBytes → Type 0
-ChangesAt path None after = ⊤
-ChangesAt path (Some files) after = (changed : FileBytes) × (after ≡ Some changed) × ((p : Path) → p ≢ path → get changed p ≡ get files p)
 
 -- If the files are known, there is one at this path just if a regular file is there.
 abbrev pub IsKindAt : Option FileBytes → Path → Kind → Type 0

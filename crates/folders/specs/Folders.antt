@@ -133,14 +133,10 @@ pub record FailsFolders (files : StoredFiles) (folders : List (Option (Bor (List
 
 -- ---- the folders of the drives, one after another
 
--- The drive of each name has a folder.
-abbrev pub OnlyOf : List (Option (Bor (List ℕ))) → Host → Type 0
-OnlyOf folders host = (k : Key) → contains_key host k ≡ true → is_some (folder_of folders (slice_index k 0)) ≡ true
-
 -- The folders of the drives below one were read.
 pub record ReadBelow (files : StoredFiles) (folders : List (Option (Bor (List ℕ)))) (drive : ℕ) (host : Host) : Type 0 where
   pub below : (k : Key) → contains_key host k ≡ true → slice_index k 0 < drive
-  pub only : OnlyOf folders host
+  pub only : (k : Key) → contains_key host k ≡ true → is_some (folder_of folders (slice_index k 0)) ≡ true
   pub all : IfSome files.bytes (λ stored. (d : ℕ) (folder : Path) → d < drive → folder_of folders d ≡ Some folder → AreFromFolder stored (files.names folder) d folder host)
 
 -- If those were read, the folder of the next drive, if it has one, is read, or is not for this failure.

@@ -25,13 +25,9 @@ without_disks p = record { out = p.out; disks = None ∷ None ∷ None ∷ None 
 abbrev pub removed_place_of : Places → Key → Option Path
 removed_place_of p key = option_map (λ disk. path_on disk key) (get_or p.disks (slice_index key 0) None)
 
--- The path in a folder that is no disk.
-abbrev pub path_outside : Option (Bor Path) → Key → Option Path
-path_outside out key = option_map (λ folder. path_text folder.now (folder_name key)) out
-
--- The path at which a file is written, if its drive has a place.
+-- The path at which a file is written, if its drive has a place: on the disk, or in a folder that is no disk.
 abbrev pub or_outside : Option Path → Option (Bor Path) → Key → Option Path
-or_outside None out key = path_outside out key
+or_outside None out key = option_map (λ folder. path_text folder.now (folder_name key)) out
 or_outside (Some path) out key = Some path
 
 abbrev pub place_of : Places → Key → Option Path

@@ -3,7 +3,7 @@
 ghost use Rattle.std.specs.Prelude.{◌≡◌, IfOk, map, option_copied, string_bytes};
 ghost use Rattle.folders.specs.DriveFolders.{both, folders_with, seen};
 ghost use Rattle.folders.specs.LetterCase.{new_name};
-ghost use Rattle.folders.specs.Places as texts;
+ghost use Rattle.folders.specs.Places as places;
 
 use crate::folder_names::{file_name, path_in};
 use crate::listing::Listing;
@@ -59,7 +59,7 @@ impl<'a> DriveFolder<'a> {
 
     /// Returns the path of a file: under the name that it has here, or the name of a new file.
     pub fn path_of(&self, alloc: Global, name: &Name) -> Result<String, AllocError>
-        ensures { IfOk result (λ path. string_bytes path ≡ texts.path_on self.now name.now) }
+        ensures { IfOk result (λ path. string_bytes path ≡ places.path_on self.now name.now) }
     {
         if let Some(file) = self.listing.files.get(&name.key()) {
             return path_in(alloc, self.folder, file.as_str());

@@ -3,6 +3,7 @@ ghost use Rattle.folders.specs.Failures.{io_paths};
 ghost use Rattle.folders.specs.Faults.{FailsBy, IsReadFault, IsWriteFault, failure_paths};
 
 use filenames::Name;
+use std::alloc::AllocError;
 use std::io::ErrorKind;
 use std::{fmt, io};
 
@@ -35,6 +36,17 @@ pub enum Failure {
     AtFault(Fault),
     /// A failed allocation.
     OutOfMemory,
+}
+
+impl From<AllocError> for Failure {
+    ghost use Rattle.std.specs.Prelude.{◌≡◌};
+    ghost use Rattle.folders.specs.declared.fault.Failure.TheVariants.{OutOfMemory};
+
+    ghost from_gives = { λ _ failure. failure ≡ OutOfMemory };
+
+    fn from(_: AllocError) -> Self {
+        Self::OutOfMemory
+    }
 }
 
 impl fmt::Display for Fault {

@@ -4,7 +4,7 @@ ghost use Rattle.std.specs.Prelude.{◌≡◌, ◌<◌, ◌∷◌, ℕ, List, []
 ghost use Rattle.std.specs.FinMap.{insert, remove};
 ghost use Rattle.std.specs.Io.KnownBytes.{Appends};
 ghost use Rattle.folders.specs.Failures.{AddsPaths, KeepsFiles, ReportsPaths, io_paths};
-ghost use Rattle.folders.specs.FileSystem.{AddsOnly, Becomes, ChangesAt, IsFree, IsKindAt, Opens, ReadsFile, StoredFiles, files_after_rename};
+ghost use Rattle.folders.specs.FileSystem.{AddsOnly, Becomes, ChangesOnly, IsFree, IsKindAt, Opens, ReadsFile, StoredFiles, files_after_rename};
 ghost use Rattle.streams.specs.Trails.{paths};
 
 use std::alloc::Global;
@@ -153,7 +153,7 @@ pub trait FileSystem {
 
     /// Removes a file if there is one and it can be removed. It is no failure if not.
     fn discard(&mut self, path: &str)
-        ensures others { ChangesAt path.now (files self.old).bytes (files self.new).bytes }
+        ensures others { ChangesOnly (path.now ∷ []) (files self.old).bytes (files self.new).bytes }
         ensures failed { (files self.new).failed ≡ (files self.old).failed };
 }
 
@@ -342,10 +342,7 @@ impl<R: Files<File = File> + AllocGlobal + Clone + Drop> FileSystem for SystemFi
 
     fn open(&mut self, path: &str) -> io::Result<Over<File>> {
         let opened = fs::open(self.rt, path);
-        match self.note(path, opened) {
-            Ok(file) => Ok(Over::new(file)),
-            Err(error) => Err(error),
-        }
+        Ok(Over::new(self.note(path, opened)?))
     }
 
     fn note_failed_read(&mut self, path: &str, _input: &Over<File>) {
@@ -374,10 +371,7 @@ impl<R: Files<File = File> + AllocGlobal + Clone + Drop> FileSystem for SystemFi
 
     fn is_free(&mut self, path: &str, target: &str) -> io::Result<bool> {
         let kind = self.kind_of(path);
-        match self.note(target, kind) {
-            Ok(kind) => Ok(kind == Kind::Absent),
-            Err(error) => Err(error),
-        }
+        Ok(self.note(target, kind)? == Kind::Absent)
     }
 
     fn id(&mut self, path: &str) -> io::Result<Option<Id>> {

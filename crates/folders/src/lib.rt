@@ -25,4 +25,4 @@ pub use file_system::{Contents, FileSystem, Id, Kind, SystemFiles};
 pub use folder_names::{file_name, name_in_folder, path_in, temporary_path};
 pub use listing::Listing;
 pub use places::Places;
-pub use reading::{ReadFolders, read_folder, read_folders};
+pub use reading::{MOST_READ, ReadFolders, read_folder, read_folders};

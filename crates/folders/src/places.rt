@@ -3,7 +3,7 @@
 ghost use Rattle.std.specs.Prelude.{◌≡◌, ◌∷◌, [], IfOk, is_some, option_map, string_bytes};
 ghost use Rattle.std.specs.List.{list_any};
 ghost use Rattle.filenames.specs.Drives.{drive_number};
-ghost use Rattle.folders.specs.Places as texts;
+ghost use Rattle.folders.specs.Places as places;
 
 use crate::drive_folder::DriveFolder;
 use crate::folder_names::{file_name, path_in};
@@ -23,7 +23,7 @@ pub struct Places<'a> {
 impl<'a> Places<'a> {
     /// Returns the same places without the disks.
     pub fn without_disks(self) -> Places<'a>
-        ensures { result ≡ texts.without_disks self.entry }
+        ensures { result ≡ places.without_disks self.entry }
     {
         Places {
             out: self.out,
@@ -33,21 +33,21 @@ impl<'a> Places<'a> {
 
     /// Returns whether a drive has a disk.
     pub fn has_disk(&self, drive: Drive) -> bool
-        ensures { result ≡ texts.has_disk self.now (drive_number drive) }
+        ensures { result ≡ places.has_disk self.now (drive_number drive) }
     {
         matches!(self.disks.get(drive.number() as usize), Some(Some(_)))
     }
 
     /// Returns whether any drive has a disk.
     pub fn has_disks(&self) -> bool
-        ensures { result ≡ list_any (texts.has_disk self.now) (0 ∷ 1 ∷ 2 ∷ 3 ∷ []) }
+        ensures { result ≡ list_any (places.has_disk self.now) (0 ∷ 1 ∷ 2 ∷ 3 ∷ []) }
     {
         Drive::ALL.iter().any(|drive| self.has_disk(*drive))
     }
 
     /// Returns whether a file is written somewhere.
     pub fn has_place(&self, name: &Name) -> bool
-        ensures { result ≡ is_some (texts.place_of self.now name.now) }
+        ensures { result ≡ is_some (places.place_of self.now name.now) }
     {
         self.has_disk(name.drive()) || self.out[name.drive().number() as usize].is_some()
     }
@@ -55,7 +55,7 @@ impl<'a> Places<'a> {
     /// Returns the path from which a file that is gone is removed, or `None` if its drive has no disk.
     pub fn removed_path_of(&self, alloc: Global, name: &Name) -> Result<Option<String>, AllocError>
         ensures { IfOk result
-            (λ path. option_map string_bytes path ≡ texts.removed_place_of self.now name.now) }
+            (λ path. option_map string_bytes path ≡ places.removed_place_of self.now name.now) }
     {
         match self.disks.get(name.drive().number() as usize) {
             Some(Some(disk)) => Ok(Some(disk.path_of(alloc, name)?)),
@@ -65,7 +65,7 @@ impl<'a> Places<'a> {
 
     /// Returns the path at which a file is written, or `None` if its drive has no folder for that.
     pub fn path_of(&self, alloc: Global, name: &Name) -> Result<Option<String>, AllocError>
-        ensures { IfOk result (λ path. option_map string_bytes path ≡ texts.place_of self.now name.now) }
+        ensures { IfOk result (λ path. option_map string_bytes path ≡ places.place_of self.now name.now) }
     {
         if let Some(path) = self.removed_path_of(alloc, name)? {
             return Ok(Some(path));

@@ -23,7 +23,7 @@ use hostfiles::{FilesError, HostFiles};
 
 /// The largest number of bytes that are read of a file: one more than a host file can have, so that a longer one is refused and
 /// not read on.
-const MOST_READ: u64 = FILE_LIMIT as u64 + 1;
+pub const MOST_READ: u64 = FILE_LIMIT as u64 + 1;
 
 // Sets a host file. If it is refused, nothing changes.
 fn set(files: &mut HostFiles, name: Name, bytes: &[u8]) -> Result<(), Failure>
@@ -58,9 +58,7 @@ fn host_file<S: FileSystem>(
     let Some(name) = name_in_folder(drive, file) else {
         return Ok(None);
     };
-    let Ok(entry) = path_in(system.alloc(), folder, file) else {
-        return Err(Failure::OutOfMemory);
-    };
+    let entry = path_in(system.alloc(), folder, file)?;
     match system.kind(entry.as_str()) {
         Ok(Kind::Regular) => Ok(Some(name)),
         Ok(_) => Ok(None),
@@ -89,13 +87,9 @@ fn add_file<S: FileSystem>(
     let Some(name) = host_file(system, listing.drive, folder, file)? else {
         return Ok(());
     };
-    let Ok(file) = String::from_str(system.alloc(), file) else {
-        return Err(Failure::OutOfMemory);
-    };
-    match listing.add(&name, file) {
-        Ok(()) => Ok(()),
-        Err(_) => Err(Failure::OutOfMemory),
-    }
+    let file = String::from_str(system.alloc(), file)?;
+    listing.add(&name, file)?;
+    Ok(())
 }
 
 // Returns the names in a folder.
@@ -105,9 +99,7 @@ fn names_in<S: FileSystem>(system: &mut S, folder: &str) -> Result<Vec<String>, 
     ensures fault { IfErr result (FailsBy (IsReadFault folder.now)) }
     ensures unchanged { KeepsFiles failure_paths result (S.files system.old) (S.files system.new) }
 {
-    let Ok(path) = String::from_str(system.alloc(), folder) else {
-        return Err(Failure::OutOfMemory);
-    };
+    let path = String::from_str(system.alloc(), folder)?;
     match system.list(folder) {
         Ok(names) => Ok(names),
         Err(error) => Err(read_failure(error, path)),
@@ -172,9 +164,7 @@ fn read_one<S: FileSystem>(
         files.old name)) }
     ensures unchanged { KeepsFiles failure_paths result (S.files system.old) (S.files system.new) }
 {
-    let Ok(path) = path_in(system.alloc(), folder, file) else {
-        return Err(Failure::OutOfMemory);
-    };
+    let path = path_in(system.alloc(), folder, file)?;
     match system.read(path.as_str(), MOST_READ) {
         Ok(bytes) => set(files, name, bytes.as_slice()),
         Err(error) => Err(read_failure(error, path)),

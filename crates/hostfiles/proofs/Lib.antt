@@ -12,3 +12,4 @@ pub mod Differences
 pub mod ChangedWalk
 pub mod ContentsLemmas
 pub use Rattle.keymaps.proofs.Views
+pub use Rattle.directory.proofs.Walk

@@ -12,4 +12,8 @@ pub use Rattle.keymaps.specs.Walks
 pub use Rattle.filenames.specs.Names
 pub use Rattle.filenames.specs.ControlBlock
 pub use Rattle.directory.specs.Entries
+pub use Rattle.directory.specs.declared.entry.Entry
+pub use Rattle.directory.specs.declared.entry.Position
 pub use Rattle.directory.specs.declared.entry.Search
+pub use Rattle.filenames.specs.Drives
+pub use Rattle.records.specs.Records

@@ -83,16 +83,9 @@ impl FileView<'_> {
         ensures grown { result ≡ true → (view_entry self.now).grown ≡ None }
         ensures records { result ≡ true → finmap.get (view_entry self.now).records number ≡ None }
     {
-        if self.grown().is_some() {
-            return false;
-        }
-        if self.written(number).is_some() {
-            return false;
-        }
-        match self.base() {
-            Base::Same => true,
-            _ => false,
-        }
+        self.grown().is_none()
+            && self.written(number).is_none()
+            && matches!(self.base(), Base::Same)
     }
 }
 

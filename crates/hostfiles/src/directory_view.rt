@@ -173,8 +173,5 @@ fn with_deletion(journal: &Journal, left: Option<Journal>, key: &Key) -> Result<
 fn is_deleted(file: &FileView<'_>, pattern: &Key) -> bool
     ensures { result ≡ (is_match pattern.now file.now.key && is_view_there file.now) }
 {
-    if !is_match(pattern, &file.key) {
-        return false;
-    }
-    file.is_there()
+    is_match(pattern, &file.key) && file.is_there()
 }

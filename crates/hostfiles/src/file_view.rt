@@ -134,10 +134,7 @@ impl FileView<'_> {
     pub fn grown(&self) -> Option<Growth>
         ensures { result ≡ (view_entry self.now).grown }
     {
-        match self.entry {
-            Some(entry) => entry.grown,
-            None => None,
-        }
+        self.entry?.grown
     }
 
     // Returns the record that was written at a number, if one was.
@@ -286,10 +283,7 @@ impl FileView<'_> {
         requires beneath { is_host_part k (view_entry self.now).grown ≡ true }
         ensures { option_copied result ≡ view_record self.now k }
     {
-        match self.beneath {
-            Some(file) => file.get(k),
-            None => None,
-        }
+        self.beneath?.get(k)
     }
 }
 

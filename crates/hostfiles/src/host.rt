@@ -213,10 +213,7 @@ impl HostFiles {
     pub fn has_room(&self, key: &Key) -> bool
         ensures { result ≡ has_room self.now key.now }
     {
-        if self.files.contains_key(key) {
-            return true;
-        }
-        self.files.len() < COUNT_LIMIT
+        self.files.contains_key(key) || self.files.len() < COUNT_LIMIT
     }
 
     /// Sets or replaces a file for which there is room. Only a new name allocates. On `Err`, which means out of memory, nothing
@@ -253,33 +250,22 @@ impl HostFiles {
     pub fn records(&self, name: &Name) -> Option<u32>
         ensures { result ≡ option_map length (finmap.get self.now name.now) }
     {
-        match self.files.get(&name.key()) {
-            Some(file) => Some(file.len()),
-            None => None,
-        }
+        Some(self.files.get(&name.key())?.len())
     }
 
     /// Returns a record of a file, or `None` if there is no such file or it is too short.
     pub fn record(&self, name: &Name, number: u32) -> Option<Record>
         ensures { result ≡ option_and_then (λ file. slice_get file number) (finmap.get self.now name.now) }
     {
-        match self.files.get(&name.key()) {
-            Some(file) => file.get(number).copied(),
-            None => None,
-        }
+        self.files.get(&name.key())?.get(number).copied()
     }
 
     /// Returns the least name above `after`, by key, or `None` if there is none. Every name is above `None`.
     pub fn next(&self, after: Option<&Name>) -> Option<Name>
         ensures { IsLeastAbove (option_copied after.entry) (finmap.contains_key self.now) result }
     {
-        let Some(key) = self.files.next_key(key_if_any(after)) else {
-            return None;
-        };
-        match Name::from_key(&key) {
-            Some(name) => Some(name),
-            None => unreachable!(),
-        }
+        let key = self.files.next_key(key_if_any(after))?;
+        Some(Name::from_valid_key(&key))
     }
 
     /// Returns the number of records of a file after these changes, or `None` if there is no such file. Marks no look.

@@ -21,8 +21,9 @@ pub mod names;
 
 pub use changed::changed_is_other;
 pub use changes::Changes;
+pub use directory::{Position, Search, next_entry};
 pub use file_view::FileView;
-pub use filenames::{Fcb, Key, Name, NameError};
+pub use filenames::{Drive, Fcb, Key, Name, NameError, is_sayable};
 pub use host::{FilesError, HostFile, HostFiles};
 pub use journal::{Base, Entry, Gap, Growth, Journal};
 pub use laid::{files_are_laid, no_record_past_end};

@@ -47,10 +47,7 @@ pub fn next_changed<'a>(
 pub(crate) fn key_if_any(name: Option<&Name>) -> Option<Key>
     ensures { result ≡ option_copied name.entry }
 {
-    match name {
-        Some(name) => Some(name.key()),
-        None => None,
-    }
+    Some(name?.key())
 }
 
 // Returns a file with its name, if its key is valid and the file is changed.

@@ -1,5 +1,5 @@
 -- What an attempt over a sure memory comes to.
-use Rattle.std.proofs.Common.{ℕ, Bool, true, Ok, Err, refl}
+use Rattle.std.proofs.Common.{ℕ, Bool, true, refl}
 use Rattle.std.specs.declared.result.Result.{Result}
 use Rattle.std.specs.declared.alloc.AllocError.{AllocError}
 use Rattle.i8080.specs.declared.registers.Regs.{Regs}

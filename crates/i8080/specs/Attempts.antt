@@ -1,6 +1,6 @@
 -- The results and effects of functions that execute an instruction, or a part of one, over a memory that may refuse a read or a
 -- write. (This project's own.)
-use Rattle.std.specs.Prelude.{ℕ, ◌≡◌, ◌≢◌, Bool, true, false, List, IfOk, OnOk, OnErr}
+use Rattle.std.specs.Prelude.{ℕ, ◌+◌, ◌≡◌, ◌≢◌, ◌<◌, Bool, true, false, IsTrue, List, IfOk, OnOk, OnErr}
 use Rattle.std.specs.declared.result.Result.{Result}
 use Rattle.i8080.specs.declared.registers.Regs.{Regs}
 use Rattle.i8080.specs.declared.outcome.Did.{Did}
@@ -17,6 +17,10 @@ use Rattle.i8080.specs.Performs.{looks_after, did_of, regs_after, own_after, Exe
 -- An opcode is kept for a cell: HLT says that none is, so a cell with the byte 76H never has one.
 abbrev pub IsKept : ℕ → Type 0
 IsKept opcode = opcode ≢ HLT
+
+-- A read of any of this many cells, starting with `a`, is never refused.
+abbrev pub AreReadable : (ℕ → Bool) → ℕ → ℕ → Type 0
+AreReadable readable a count = (i : ℕ) → i < count → IsTrue (readable (a + i))
 
 -- The result and the effects of a call that executes a tree of reads and its end over a memory that may refuse any read or write and
 -- notes no look: on `Ok` those of the instruction, which looked at nothing new; on `Err` nothing changed.

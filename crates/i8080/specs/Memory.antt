@@ -49,3 +49,10 @@ Extends old new = take (length old) new ≡ old
 abbrev pub write_all : Own → List (ℕ × ℕ) → Own
 write_all own [] = own
 write_all own (w ∷ rest) = write_all (write own w.0 w.1) rest
+
+-- The memory after a read of a cell, and after several writes, in order.
+abbrev pub with_look : ℕ → Memory → Memory
+with_look a m = record m { looks = look m.own m.looks a }
+
+abbrev pub with_writes : List (ℕ × ℕ) → Memory → Memory
+with_writes writes m = record m { own = write_all m.own writes }

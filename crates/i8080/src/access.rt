@@ -1,11 +1,14 @@
 ghost use Rattle.std.specs.Prelude.{◌≡◌, ◌<◌, ℕ, Bool, true, false, IsTrue, IfOk, OnOk, OnErr};
-ghost use Rattle.i8080.specs.Memory.{Memory, bytes, look, write};
+ghost use Rattle.i8080.specs.Memory.{Memory, bytes, look, with_writes};
 ghost use Rattle.i8080.specs.Reading.{Cell, Done};
-ghost use Rattle.i8080.specs.Instruction.{one_word, word_at};
-ghost use Rattle.i8080.specs.Performs.{KeepsReady, WritesUnready};
-ghost use Rattle.i8080.specs.Attempts.{IsKept, MayRead, MayWrite};
+ghost use Rattle.i8080.specs.Registers.{onward};
+ghost use Rattle.i8080.specs.Opcodes.{decoded};
+ghost use Rattle.i8080.specs.Operands.{byte_count};
+ghost use Rattle.i8080.specs.Instruction.{one_byte, one_word, word_at};
+ghost use Rattle.i8080.specs.Performs.{KeepsReady, Reads, WritesUnready};
+ghost use Rattle.i8080.specs.Attempts.{AreReadable, IsKept, MayRead, MayWrite};
 
-use crate::bus::{Bus, fetch_word};
+use crate::bus::{Bus, fetch, fetch_word};
 use crate::registers::word_of;
 use std::alloc::AllocError;
 
@@ -25,6 +28,9 @@ pub trait Access {
 
     /// Whether no read is refused, and a write only if its cell was not ready. If not, a read is no look.
     ghost is_sure: { Bool };
+
+    /// Whether a read of a cell is never refused.
+    ghost is_readable: { Self → ℕ → Bool };
 
     /// The address below which opcodes are kept.
     ghost opcode_limit: { ℕ };
@@ -57,12 +63,29 @@ pub trait Access {
         ensures lender { (memory self.new).lender ≡ (memory self.old).lender };
 
     /// Returns the byte of a cell as an opcode, or HLT if the memory does not keep it as one. This is no look. A memory that keeps
-    /// opcodes a second time can return them faster than it reads.
+    /// opcodes a second time can return them faster than it reads, and need not test whether their operands can be read.
     fn opcode(&self, a: u16) -> u8
         ensures value { IsKept result → result ≡ bytes (memory self.now) a }
         ensures unlooked { IsKept result
             → look (memory self.now).own (memory self.now).looks a ≡ (memory self.now).looks }
-        ensures low { IsKept result → a < opcode_limit };
+        ensures low { IsKept result → a < opcode_limit }
+        ensures readable { IsKept result
+            → AreReadable (is_readable self.now) a (byte_count (decoded result)) };
+
+    /// Reads the byte after the opcode of this cell. If the memory is sure, this is a look, unless the cell was written.
+    fn operand(&mut self, pc: u16) -> u8
+        requires { AreReadable (is_readable self.old) pc 2 }
+        ensures reads { Reads (Cell (onward pc 1) Done) (memory self.old) result (memory self.new) }
+        ensures quiet { is_sure ≡ false → (memory self.new).looks ≡ (memory self.old).looks }
+        ensures kept { KeepsReady (is_ready self.old) (is_ready self.new) };
+
+    /// Reads the word after the opcode of this cell, low byte first. If the memory is sure, each byte is a look, unless its cell was
+    /// written.
+    fn operand_word(&mut self, pc: u16) -> u16
+        requires { AreReadable (is_readable self.old) pc 3 }
+        ensures reads { Reads (word_at (onward pc 1) Done) (memory self.old) result (memory self.new) }
+        ensures quiet { is_sure ≡ false → (memory self.new).looks ≡ (memory self.old).looks }
+        ensures kept { KeepsReady (is_ready self.old) (is_ready self.new) };
 
     /// Reads the word at an address, with its low byte in the addressed cell and its high byte in the next one. The cell after
     /// 0FFFFH is 0000H.
@@ -85,10 +108,7 @@ pub trait Access {
     fn put(&mut self, a: u16, value: u8)
         requires { IsTrue (is_ready self.old a) }
         ensures kept { (q : ℕ) → IsTrue (is_ready self.old q) → IsTrue (is_ready self.new q) }
-        ensures own { (memory self.new).own ≡ write (memory self.old).own a value }
-        ensures looks { (memory self.new).looks ≡ (memory self.old).looks }
-        ensures beneath { (memory self.new).beneath ≡ (memory self.old).beneath }
-        ensures lender { (memory self.new).lender ≡ (memory self.old).lender };
+        ensures memory { memory self.new ≡ with_writes (one_byte a value) (memory self.old) };
 
     /// Writes the word at an address, low byte first, after making both cells ready. No byte changes before both are.
     ///
@@ -129,6 +149,8 @@ impl<B: Bus> Access for B {
 
     ghost is_sure = { true };
 
+    ghost is_readable = { λ s q. true };
+
     ghost opcode_limit = { 0 };
 
     #[inline(always)]
@@ -145,6 +167,16 @@ impl<B: Bus> Access for B {
     fn opcode(&self, a: u16) -> u8 {
         let _ = a;
         HLT
+    }
+
+    #[inline(always)]
+    fn operand(&mut self, pc: u16) -> u8 {
+        fetch(self, pc.wrapping_add(1))
+    }
+
+    #[inline(always)]
+    fn operand_word(&mut self, pc: u16) -> u16 {
+        fetch_word(self, pc.wrapping_add(1))
     }
 
     #[inline(always)]

@@ -1,8 +1,8 @@
 ghost use Rattle.std.specs.Prelude.{◌≡◌, ◌<◌, ℕ, Bool, true, false, IsTrue, OnOk, OnErr, IfSome, length, slice_index};
-ghost use Rattle.i8080.specs.Memory.{Memory, bytes, look, write, write_all};
+ghost use Rattle.i8080.specs.Memory.{Memory, bytes, look, with_look, with_writes};
 ghost use Rattle.i8080.specs.Reading.{Cell, Done};
 ghost use Rattle.i8080.specs.Registers.{onward, word};
-ghost use Rattle.i8080.specs.Instruction.{word_at};
+ghost use Rattle.i8080.specs.Instruction.{one_byte, word_at};
 ghost use Rattle.i8080.specs.End.{cells_from};
 ghost use Rattle.i8080.specs.Performs.{KeepsReady, Reads};
 
@@ -33,19 +33,13 @@ pub trait Bus {
     fn read(&mut self, a: u16) -> u8
         ensures value { result ≡ bytes (memory self.old) a }
         ensures kept { (q : ℕ) → IsTrue (is_ready self.old q) → IsTrue (is_ready self.new q) }
-        ensures looks { (memory self.new).looks ≡ look (memory self.old).own (memory self.old).looks a }
-        ensures own { (memory self.new).own ≡ (memory self.old).own }
-        ensures beneath { (memory self.new).beneath ≡ (memory self.old).beneath }
-        ensures lender { (memory self.new).lender ≡ (memory self.old).lender };
+        ensures memory { memory self.new ≡ with_look a (memory self.old) };
 
     /// Writes a ready cell.
     fn write(&mut self, a: u16, value: u8)
         requires { IsTrue (is_ready self.old a) }
         ensures kept { (q : ℕ) → IsTrue (is_ready self.old q) → IsTrue (is_ready self.new q) }
-        ensures own { (memory self.new).own ≡ write (memory self.old).own a value }
-        ensures looks { (memory self.new).looks ≡ (memory self.old).looks }
-        ensures beneath { (memory self.new).beneath ≡ (memory self.old).beneath }
-        ensures lender { (memory self.new).lender ≡ (memory self.old).lender };
+        ensures memory { memory self.new ≡ with_writes (one_byte a value) (memory self.old) };
 
     /// Makes `count` cells ready, starting at `at`; the cell after 0FFFFH is 0000H. No byte changes.
     ///
@@ -70,10 +64,7 @@ pub trait Bus {
     fn write_cells(&mut self, at: u16, values: &[u8])
         requires ready { (i : ℕ) → i < length values.now → IsTrue (is_ready self.old (onward at i)) }
         ensures kept { (q : ℕ) → IsTrue (is_ready self.old q) → IsTrue (is_ready self.new q) }
-        ensures own { (memory self.new).own ≡ write_all (memory self.old).own (cells_from at values.now) }
-        ensures looks { (memory self.new).looks ≡ (memory self.old).looks }
-        ensures beneath { (memory self.new).beneath ≡ (memory self.old).beneath }
-        ensures lender { (memory self.new).lender ≡ (memory self.old).lender }
+        ensures memory { memory self.new ≡ with_writes (cells_from at values.now) (memory self.old) }
     {
         let mut address = at;
         for value in values {
@@ -84,7 +75,7 @@ pub trait Bus {
 
     /// Copies the bytes of cells, starting at `at`, and returns `true`, if the memory can do this at once and without a look;
     /// the cell after 0FFFFH is 0000H. On `false`, the bytes in `cells` are unspecified: read the cells one by one.
-    fn known_cells(&self, at: u16, cells: &mut [u8]) -> bool
+    fn cells_at_once(&self, at: u16, cells: &mut [u8]) -> bool
         ensures length { length cells.new ≡ length cells.old }
         ensures value { result ≡ true → (i : ℕ) → i < length cells.old
             → slice_index cells.new i ≡ bytes (memory self.now) (onward at i) }

@@ -1,6 +1,7 @@
-ghost use Rattle.std.specs.Prelude.{◌≡◌, ◌≢◌, ◌<◌, ◌/◌, ◌%◌, ℕ, true, false, None, MatchOption};
+ghost use Rattle.std.specs.Prelude.{◌≡◌, ◌≢◌, ◌<◌, ◌≤◌, ◌/◌, ◌%◌, ℕ, true, false, None, MatchOption};
 ghost use Rattle.i8080.specs.declared.opcode.Op.{Op};
 ghost use Rattle.i8080.specs.Opcodes.{opcode_of, place_code, pair_code, arithmetic_code, condition_code, decoded, is_undefined, NoneHas, OneHas};
+ghost use Rattle.i8080.specs.Operands.{byte_count, operand_count};
 
 use crate::opcode::{
     Arithmetic, Base, Condition, Op, Pair, Place, Register, Restart, Rotation, Saved, Source,
@@ -178,6 +179,30 @@ pub fn decode(byte: u8) -> Option<Op>
         }),
         2 => Some(Op::Accumulate(arithmetic(byte / 8 % 8), Source::At(place(byte % 8)))),
         _ => last_quarter(byte),
+    }
+}
+
+/// Returns how many operand bytes follow the opcode of this instruction. [8080 manual 1975, chapter 4, instruction set]
+pub fn operand_count(op: Op) -> usize
+    ensures { result ≡ operand_count op }
+{
+    match op {
+        Op::Mvi(_) | Op::Accumulate(_, Source::Immediate) | Op::In | Op::Out => 1,
+        Op::Lxi(_) | Op::Lda | Op::Sta | Op::Lhld | Op::Shld => 2,
+        Op::Jmp | Op::JumpIf(_) | Op::Call | Op::CallIf(_) => 2,
+        _ => 0,
+    }
+}
+
+/// Returns how many bytes the instruction with this opcode has, 1 to 3, or 1 for an undefined byte.
+/// [8080 manual 1975, chapter 4, instruction set]
+pub fn byte_count(opcode: u8) -> usize
+    ensures count { result ≡ byte_count (decoded opcode) }
+    ensures range { (1 ≤ result) × (result ≤ 3) }
+{
+    match decode(opcode) {
+        None => 1,
+        Some(op) => 1 + operand_count(op),
     }
 }
 

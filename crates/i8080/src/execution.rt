@@ -1,6 +1,6 @@
 // Fetches and decodes the opcode at PC, and executes its instruction.
 
-ghost use Rattle.std.specs.Prelude.{◌≡◌, MatchOption, IfNone, IfSome};
+ghost use Rattle.std.specs.Prelude.{◌≡◌, ℕ, IsTrue, MatchOption, IfNone, IfSome};
 ghost use Rattle.i8080.specs.Performs.{Performs};
 ghost use Rattle.i8080.specs.Instruction.{instruction};
 ghost use Rattle.i8080.specs.Attempts.{Tries};
@@ -39,6 +39,7 @@ pub fn execute<B: Bus>(regs: &mut Regs, bus: &mut B) -> Result<Did, AllocError>
 
 // Executes an instruction whose opcode was read.
 fn perform<M: Access>(regs: &mut Regs, bus: &mut M, op: Op) -> Result<Did, M::Refusal>
+    requires { (q : ℕ) → IsTrue (M.is_readable bus.old q) }
     ensures { Tries M.is_sure op regs.old (M.memory bus.old) (M.is_ready bus.old)
         result regs.new (M.memory bus.new) }
 {
@@ -64,6 +65,7 @@ fn go_on<M: Access>(
     bus: &mut M,
     op: Op,
 ) -> Option<Result<u16, M::Refusal>>
+    requires { (q : ℕ) → IsTrue (M.is_readable bus.old q) }
     ensures moved { IfSome result (λ next. Moves M.is_sure op pc regs.old (M.memory bus.old)
         (M.is_ready bus.old) next regs.new (M.memory bus.new)) }
     ensures halted { IfNone result (op ≡ Hlt) }

@@ -2,10 +2,12 @@
 // PC in a register of the processor, where `regs.pc` would go through memory in every step. Each reads first, then makes cells ready and
 // writes them, and sets the registers last, so that the registers and the bytes of memory are unchanged if the memory refuses.
 
+#![tactic(auto, using(crate::proofs::ReadyLemmas::readiness))]
+
 ghost use Rattle.std.specs.Prelude.{◌≡◌, true, OnErr};
 ghost use Rattle.i8080.specs.Reading.{Done};
 ghost use Rattle.i8080.specs.Performs.{KeepsReady, WritesUnready};
-ghost use Rattle.i8080.specs.Attempts.{Attempts, MayRead, MayWrite};
+ghost use Rattle.i8080.specs.Attempts.{AreReadable, Attempts, MayRead, MayWrite};
 ghost use Rattle.i8080.specs.Moves.{Moves};
 ghost use Rattle.i8080.specs.Instruction.{from_place, to_place, base_of, one_byte, pushing};
 ghost use Rattle.i8080.specs.declared.opcode.Source.TheVariants.{At, Immediate};
@@ -24,7 +26,6 @@ type Part<M> = Result<Did, <M as Access>::Refusal>;
 type Next<M> = Result<u16, <M as Access>::Refusal>;
 
 // Reads a register, or the cell at HL.
-#[tactic(auto, using(crate::proofs::ReadyLemmas::readiness))]
 #[inline(always)]
 fn operand<M: Access>(regs: &Regs, bus: &mut M, place: Place) -> Result<u8, M::Refusal>
     ensures reads { MayRead M.is_sure (from_place place regs.now Done)
@@ -51,7 +52,6 @@ fn store<M: Access>(bus: &mut M, a: u16, value: u8) -> Result<(), M::Refusal>
 }
 
 // Sets a register, or writes the cell at HL.
-#[tactic(auto, using(crate::proofs::ReadyLemmas::readiness))]
 #[inline(always)]
 fn set_place<M: Access>(regs: &mut Regs, bus: &mut M, place: Place, value: u8) -> Part<M>
     ensures { Attempts M.is_sure (to_place place value regs.old)
@@ -65,7 +65,6 @@ fn set_place<M: Access>(regs: &mut Regs, bus: &mut M, place: Place, value: u8) -
 }
 
 // Pushes a word.
-#[tactic(auto, using(crate::proofs::ReadyLemmas::readiness))]
 #[inline(always)]
 fn push_word<M: Access>(regs: &mut Regs, bus: &mut M, value: u16) -> Part<M>
     ensures { Attempts M.is_sure (pushing value regs.old)
@@ -77,8 +76,9 @@ fn push_word<M: Access>(regs: &mut Regs, bus: &mut M, value: u16) -> Part<M>
     Ok(Did::Went)
 }
 
+// Returns the address for LDAX or STAX.
 #[inline(always)]
-fn address(regs: &Regs, base: Base) -> u16
+fn base_of(regs: &Regs, base: Base) -> u16
     ensures { result ≡ base_of base regs.now }
 {
     match base {
@@ -106,7 +106,6 @@ pub fn mov<M: Access>(regs: &mut Regs, pc: u16, bus: &mut M, to: Register, from:
     Ok(pc.wrapping_add(1))
 }
 
-#[tactic(auto, using(crate::proofs::ReadyLemmas::readiness))]
 #[inline(always)]
 pub fn mov_to_memory<M: Access>(regs: &mut Regs, pc: u16, bus: &mut M, from: Register) -> Next<M>
     ensures { Moves M.is_sure (MovToMemory from) pc regs.old (M.memory bus.old) (M.is_ready bus.old)
@@ -116,66 +115,69 @@ pub fn mov_to_memory<M: Access>(regs: &mut Regs, pc: u16, bus: &mut M, from: Reg
     Ok(pc.wrapping_add(1))
 }
 
-#[tactic(auto, using(crate::proofs::ReadyLemmas::readiness))]
 #[inline(always)]
 pub fn mvi<M: Access>(regs: &mut Regs, pc: u16, bus: &mut M, to: Place) -> Next<M>
+    requires { AreReadable (M.is_readable bus.old) pc 2 }
     ensures { Moves M.is_sure (Mvi to) pc regs.old (M.memory bus.old) (M.is_ready bus.old)
         result regs.new (M.memory bus.new) }
 {
-    let value = read_byte(bus, pc.wrapping_add(1))?;
+    let value = bus.operand(pc);
     set_place(regs, bus, to, value)?;
     Ok(pc.wrapping_add(2))
 }
 
 #[inline(always)]
 pub fn lxi<M: Access>(regs: &mut Regs, pc: u16, bus: &mut M, to: Pair) -> Next<M>
+    requires { AreReadable (M.is_readable bus.old) pc 3 }
     ensures { Moves M.is_sure (Lxi to) pc regs.old (M.memory bus.old) (M.is_ready bus.old)
         result regs.new (M.memory bus.new) }
 {
-    let value = bus.try_word(pc.wrapping_add(1))?;
+    let value = bus.operand_word(pc);
     regs.set_pair(to, value);
     Ok(pc.wrapping_add(3))
 }
 
 #[inline(always)]
 pub fn lda<M: Access>(regs: &mut Regs, pc: u16, bus: &mut M) -> Next<M>
+    requires { AreReadable (M.is_readable bus.old) pc 3 }
     ensures { Moves M.is_sure Lda pc regs.old (M.memory bus.old) (M.is_ready bus.old)
         result regs.new (M.memory bus.new) }
 {
-    let from = bus.try_word(pc.wrapping_add(1))?;
+    let from = bus.operand_word(pc);
     regs.a = read_byte(bus, from)?;
     Ok(pc.wrapping_add(3))
 }
 
-#[tactic(auto, using(crate::proofs::ReadyLemmas::readiness))]
 #[inline(always)]
 pub fn sta<M: Access>(regs: &mut Regs, pc: u16, bus: &mut M) -> Next<M>
+    requires { AreReadable (M.is_readable bus.old) pc 3 }
     ensures { Moves M.is_sure Sta pc regs.old (M.memory bus.old) (M.is_ready bus.old)
         result regs.new (M.memory bus.new) }
 {
-    let to = bus.try_word(pc.wrapping_add(1))?;
+    let to = bus.operand_word(pc);
     store(bus, to, regs.a)?;
     Ok(pc.wrapping_add(3))
 }
 
 #[inline(always)]
 pub fn lhld<M: Access>(regs: &mut Regs, pc: u16, bus: &mut M) -> Next<M>
+    requires { AreReadable (M.is_readable bus.old) pc 3 }
     ensures { Moves M.is_sure Lhld pc regs.old (M.memory bus.old) (M.is_ready bus.old)
         result regs.new (M.memory bus.new) }
 {
-    let from = bus.try_word(pc.wrapping_add(1))?;
+    let from = bus.operand_word(pc);
     let value = bus.try_word(from)?;
     regs.set_pair(Pair::Hl, value);
     Ok(pc.wrapping_add(3))
 }
 
-#[tactic(auto, using(crate::proofs::ReadyLemmas::readiness))]
 #[inline(always)]
 pub fn shld<M: Access>(regs: &mut Regs, pc: u16, bus: &mut M) -> Next<M>
+    requires { AreReadable (M.is_readable bus.old) pc 3 }
     ensures { Moves M.is_sure Shld pc regs.old (M.memory bus.old) (M.is_ready bus.old)
         result regs.new (M.memory bus.new) }
 {
-    let to = bus.try_word(pc.wrapping_add(1))?;
+    let to = bus.operand_word(pc);
     bus.store_word(to, regs.pair(Pair::Hl))?;
     Ok(pc.wrapping_add(3))
 }
@@ -185,17 +187,16 @@ pub fn ldax<M: Access>(regs: &mut Regs, pc: u16, bus: &mut M, base: Base) -> Nex
     ensures { Moves M.is_sure (Ldax base) pc regs.old (M.memory bus.old) (M.is_ready bus.old)
         result regs.new (M.memory bus.new) }
 {
-    regs.a = read_byte(bus, address(regs, base))?;
+    regs.a = read_byte(bus, base_of(regs, base))?;
     Ok(pc.wrapping_add(1))
 }
 
-#[tactic(auto, using(crate::proofs::ReadyLemmas::readiness))]
 #[inline(always)]
 pub fn stax<M: Access>(regs: &mut Regs, pc: u16, bus: &mut M, base: Base) -> Next<M>
     ensures { Moves M.is_sure (Stax base) pc regs.old (M.memory bus.old) (M.is_ready bus.old)
         result regs.new (M.memory bus.new) }
 {
-    store(bus, address(regs, base), regs.a)?;
+    store(bus, base_of(regs, base), regs.a)?;
     Ok(pc.wrapping_add(1))
 }
 
@@ -233,15 +234,15 @@ pub fn accumulate_immediate<M: Access>(
     bus: &mut M,
     function: Arithmetic,
 ) -> Next<M>
+    requires { AreReadable (M.is_readable bus.old) pc 2 }
     ensures { Moves M.is_sure (Accumulate function Immediate) pc
         regs.old (M.memory bus.old) (M.is_ready bus.old) result regs.new (M.memory bus.new) }
 {
-    let value = read_byte(bus, pc.wrapping_add(1))?;
+    let value = bus.operand(pc);
     regs.accumulate(function, value);
     Ok(pc.wrapping_add(2))
 }
 
-#[tactic(auto, using(crate::proofs::ReadyLemmas::readiness))]
 #[inline(always)]
 pub fn inr<M: Access>(regs: &mut Regs, pc: u16, bus: &mut M, at: Place) -> Next<M>
     ensures { Moves M.is_sure (Inr at) pc regs.old (M.memory bus.old) (M.is_ready bus.old)
@@ -254,7 +255,6 @@ pub fn inr<M: Access>(regs: &mut Regs, pc: u16, bus: &mut M, at: Place) -> Next<
     Ok(pc.wrapping_add(1))
 }
 
-#[tactic(auto, using(crate::proofs::ReadyLemmas::readiness))]
 #[inline(always)]
 pub fn dcr<M: Access>(regs: &mut Regs, pc: u16, bus: &mut M, at: Place) -> Next<M>
     ensures { Moves M.is_sure (Dcr at) pc regs.old (M.memory bus.old) (M.is_ready bus.old)
@@ -362,42 +362,44 @@ pub fn cmc<M: Access>(regs: &mut Regs, pc: u16, _bus: &mut M) -> Next<M>
 
 #[inline(always)]
 pub fn jmp<M: Access>(regs: &mut Regs, pc: u16, bus: &mut M) -> Next<M>
+    requires { AreReadable (M.is_readable bus.old) pc 3 }
     ensures { Moves M.is_sure Jmp pc regs.old (M.memory bus.old) (M.is_ready bus.old)
         result regs.new (M.memory bus.new) }
 {
-    bus.try_word(pc.wrapping_add(1))
+    Ok(bus.operand_word(pc))
 }
 
 #[inline(always)]
 pub fn jump_if<M: Access>(regs: &mut Regs, pc: u16, bus: &mut M, condition: Condition) -> Next<M>
+    requires { AreReadable (M.is_readable bus.old) pc 3 }
     ensures { Moves M.is_sure (JumpIf condition) pc regs.old (M.memory bus.old) (M.is_ready bus.old)
         result regs.new (M.memory bus.new) }
 {
-    let to = bus.try_word(pc.wrapping_add(1))?;
+    let to = bus.operand_word(pc);
     if !condition.is_met(regs.flags) {
         return Ok(pc.wrapping_add(3));
     }
     Ok(to)
 }
 
-#[tactic(auto, using(crate::proofs::ReadyLemmas::readiness))]
 #[inline(always)]
 pub fn call<M: Access>(regs: &mut Regs, pc: u16, bus: &mut M) -> Next<M>
+    requires { AreReadable (M.is_readable bus.old) pc 3 }
     ensures { Moves M.is_sure Call pc regs.old (M.memory bus.old) (M.is_ready bus.old)
         result regs.new (M.memory bus.new) }
 {
-    let to = bus.try_word(pc.wrapping_add(1))?;
+    let to = bus.operand_word(pc);
     push_word(regs, bus, pc.wrapping_add(3))?;
     Ok(to)
 }
 
-#[tactic(auto, using(crate::proofs::ReadyLemmas::readiness))]
 #[inline(always)]
 pub fn call_if<M: Access>(regs: &mut Regs, pc: u16, bus: &mut M, condition: Condition) -> Next<M>
+    requires { AreReadable (M.is_readable bus.old) pc 3 }
     ensures { Moves M.is_sure (CallIf condition) pc regs.old (M.memory bus.old) (M.is_ready bus.old)
         result regs.new (M.memory bus.new) }
 {
-    let to = bus.try_word(pc.wrapping_add(1))?;
+    let to = bus.operand_word(pc);
     if !condition.is_met(regs.flags) {
         return Ok(pc.wrapping_add(3)); // not called
     }
@@ -426,7 +428,6 @@ pub fn ret_if<M: Access>(regs: &mut Regs, pc: u16, bus: &mut M, condition: Condi
     Ok(pc.wrapping_add(1))
 }
 
-#[tactic(auto, using(crate::proofs::ReadyLemmas::readiness))]
 #[inline(always)]
 pub fn rst<M: Access>(regs: &mut Regs, pc: u16, bus: &mut M, restart: Restart) -> Next<M>
     ensures { Moves M.is_sure (Rst restart) pc regs.old (M.memory bus.old) (M.is_ready bus.old)
@@ -444,7 +445,6 @@ pub fn pchl<M: Access>(regs: &mut Regs, pc: u16, _bus: &mut M) -> Next<M>
     Ok(regs.pair(Pair::Hl))
 }
 
-#[tactic(auto, using(crate::proofs::ReadyLemmas::readiness))]
 #[inline(always)]
 pub fn push<M: Access>(regs: &mut Regs, pc: u16, bus: &mut M, what: Saved) -> Next<M>
     ensures { Moves M.is_sure (Push what) pc regs.old (M.memory bus.old) (M.is_ready bus.old)
@@ -479,7 +479,6 @@ pub fn pop<M: Access>(regs: &mut Regs, pc: u16, bus: &mut M, what: Saved) -> Nex
     Ok(pc.wrapping_add(1))
 }
 
-#[tactic(auto, using(crate::proofs::ReadyLemmas::readiness))]
 #[inline(always)]
 pub fn xthl<M: Access>(regs: &mut Regs, pc: u16, bus: &mut M) -> Next<M>
     ensures { Moves M.is_sure Xthl pc regs.old (M.memory bus.old) (M.is_ready bus.old)
@@ -502,19 +501,21 @@ pub fn sphl<M: Access>(regs: &mut Regs, pc: u16, _bus: &mut M) -> Next<M>
 
 #[inline(always)]
 pub fn input<M: Access>(regs: &mut Regs, pc: u16, bus: &mut M) -> Next<M>
+    requires { AreReadable (M.is_readable bus.old) pc 2 }
     ensures { Moves M.is_sure In pc regs.old (M.memory bus.old) (M.is_ready bus.old)
         result regs.new (M.memory bus.new) }
 {
-    read_byte(bus, pc.wrapping_add(1))?;
+    bus.operand(pc);
     regs.a = 255;
     Ok(pc.wrapping_add(2))
 }
 
 #[inline(always)]
 pub fn output<M: Access>(regs: &mut Regs, pc: u16, bus: &mut M) -> Next<M>
+    requires { AreReadable (M.is_readable bus.old) pc 2 }
     ensures { Moves M.is_sure Out pc regs.old (M.memory bus.old) (M.is_ready bus.old)
         result regs.new (M.memory bus.new) }
 {
-    read_byte(bus, pc.wrapping_add(1))?;
+    bus.operand(pc);
     Ok(pc.wrapping_add(2))
 }

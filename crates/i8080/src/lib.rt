@@ -2,7 +2,7 @@
 //!
 //! - `registers`, `flags`: the registers, the register pairs and the operations on the accumulator; the five flags and the
 //!   conditions on them
-//! - `opcode`, `decoder`: the instructions, without the bytes that follow the opcode; decoding of a byte
+//! - `opcode`, `decoder`: the instructions, without the bytes that follow the opcode; decoding of a byte, and how many bytes follow
 //! - `bus`: `Bus`, the trait of a memory, and reads and writes of more than one cell
 //! - `access`: `Access`, the trait of a memory that may refuse a read or a write, as each `Bus` is
 //! - `instructions`: one function for each kind of instruction
@@ -24,7 +24,7 @@ mod registers;
 
 pub use access::{Access, HLT};
 pub use bus::{Bus, fetch, fetch_word};
-pub use decoder::{bytes_have_one_instruction, decode, opcodes_differ};
+pub use decoder::{byte_count, bytes_have_one_instruction, decode, opcodes_differ, operand_count};
 pub use execution::execute;
 pub use flags::Flags;
 pub use opcode::Op;

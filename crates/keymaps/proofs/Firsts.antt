@@ -2,7 +2,7 @@
 use Rattle.std.proofs.Common.{◌≡◌, ◌≢◌, ℕ, ◌+◌, ◌&&◌, nat_eq, Result, Ok, Err, Bool, true, false, cond, is_some, Some, None, Option, refl, sym, ap, subst, ◌∙◌}
 use Rattle.std.specs.declared.cmp.Ordering.{Ordering}
 use Rattle.std.specs.Ordering.{eq_by_cmp}
-use Rattle.std.specs.Option.{IfSome}
+use Rattle.std.specs.Option.{IfNone, IfSome}
 use Rattle.std.specs.Result.{OnOk, OnErr}
 use Rattle.std.specs.Bool.{Decides}
 use Rattle.std.specs.Cmp.{IsTotalOrder}
@@ -131,6 +131,10 @@ module _ {K : Type 0} {R : K → K → Ordering} (o : IsTotalOrder R) (same : Is
   pub without_last : (rest set : FinMap R (Unit {0})) (first : Option K) → with_first first rest ≡ set → IsFirstApart first rest → IfSome first (λ key. rest ≡ remove set key)
   without_last rest set None view apart = tt
   without_last rest set (Some k) view apart = sym (remove_back o same rest k tt apart) ∙ ap (λ m. remove m k) view
+
+  pub none_last : (rest set : FinMap R (Unit {0})) (first : Option K) → with_first first rest ≡ set → IsFirstApart first rest → IfNone first ((rest ≡ set) × ((q : K) → IsAbsent set q))
+  none_last rest set None view apart = (view, none_in rest set None view refl apart)
+  none_last rest set (Some k) view apart = tt
 
 -- ---- whether two records are the same
 

@@ -15,6 +15,7 @@ mod ordered;
 pub mod record_set;
 
 pub use drives::DriveSet;
+pub use filenames::Key;
 pub use keys::KeySet;
 pub use map::{KeyMap, KeyOfBoth, next_of_both};
 pub use record_set::RecordSet;

@@ -197,10 +197,7 @@ impl<V: Drop> KeyMap<V> {
         ensures least { IsLeastAbove after (finmap.contains_key self.now) result }
         ensures fewer { IfSome result (λ k. count_above self.now (Some k) < count_above self.now after) }
     {
-        match self.next_key_value(after) {
-            Some((key, _)) => Some(*key),
-            None => None,
-        }
+        Some(*self.next_key_value(after)?.0)
     }
 }
 

@@ -1,6 +1,6 @@
 // Sets of pairs of a key and a record number.
 
-ghost use Rattle.std.specs.Prelude.{◌≡◌, ◌<◌, OnOk, OnErr, IfOk, IfSome, IfNone, ℕ, List, true};
+ghost use Rattle.std.specs.Prelude.{◌≡◌, OnOk, OnErr, IfOk, IfSome, IfNone, ℕ, List, true};
 ghost use Rattle.std.specs.FinMap as finmap;
 ghost use Rattle.keymaps.specs.Walks.{IsAbsent};
 
@@ -14,7 +14,7 @@ use std::marker::Model;
 pub struct RecordSet {
     // If this is `None`, `rest` is empty; otherwise this record is not in `rest`.
     first: Option<(Key, u32)>,
-    rest: RecordTree,
+    rest: BTreeMap<(Key, u32), ()>,
 }
 
 impl Model for RecordSet {
@@ -29,9 +29,9 @@ impl Model for RecordSet {
 
     ghost coded = { finmap.code (coded× (coded_list coded_ℕ) coded_ℕ) coded_unit };
 
-    ghost view = { λ a. with_first a.first a.rest };
+    ghost view = { λ a. with_first a.first (finmap.from_entries a.rest.entries) };
 
-    ghost invariant = { λ a. IsFirstApart a.first a.rest };
+    ghost invariant = { λ a. IsFirstApart a.first (finmap.from_entries {R = record_cmp} a.rest.entries) };
 }
 
 impl RecordSet {
@@ -41,7 +41,7 @@ impl RecordSet {
     {
         Self {
             first: None,
-            rest: RecordTree::new(alloc),
+            rest: BTreeMap::new(alloc),
         }
     }
 
@@ -61,7 +61,7 @@ impl RecordSet {
     {
         match self.first {
             None => false,
-            Some(first) => first == (*key, place) || self.rest.contains(key, place),
+            Some(first) => first == (*key, place) || self.rest.contains_key(&(*key, place)),
         }
     }
 
@@ -79,7 +79,8 @@ impl RecordSet {
         if first == (key, place) {
             return Ok(());
         }
-        self.rest.insert(key, place)
+        self.rest.insert((key, place), ())?;
+        Ok(())
     }
 
     /// Returns a copy of the set. `Err` means out of memory.
@@ -88,7 +89,7 @@ impl RecordSet {
     {
         Ok(RecordSet {
             first: self.first,
-            rest: self.rest.snapshot()?,
+            rest: self.rest.clone()?,
         })
     }
 
@@ -97,7 +98,9 @@ impl RecordSet {
         ensures { self.new ≡ finmap.empty }
     {
         self.first = None;
-        self.rest.clear();
+        if self.rest.len() != 0 {
+            self.rest.clear();
+        }
     }
 
     /// Removes and returns one of the records, or `None` if the set is empty. Allocates nothing.
@@ -107,96 +110,9 @@ impl RecordSet {
         ensures none { IfNone result ((self.new ≡ self.old)
             × ((p : List ℕ × ℕ) → IsAbsent self.old p)) }
     {
-        if let Some(place) = self.rest.pop() {
-            return Some(place);
+        if let Some((record, _)) = self.rest.pop_first() {
+            return Some(record);
         }
         self.first.take()
-    }
-}
-
-// A set of records of files, all of them in the tree.
-#[derive(Drop)]
-struct RecordTree {
-    map: BTreeMap<(Key, u32), ()>,
-}
-
-impl Model for RecordTree {
-    ghost use Rattle.std.specs.Prelude.{List, ℕ};
-    ghost use Rattle.std.specs.FinMap as finmap;
-    ghost use Rattle.std.specs.Coded.{coded_ℕ, coded_list, coded×};
-    ghost use base.Stored.{coded_unit};
-    ghost use Rattle.keymaps.specs.Order.{record_cmp};
-
-    ghost Value = { finmap.FinMap record_cmp (Unit {0}) };
-
-    ghost coded = { finmap.code (coded× (coded_list coded_ℕ) coded_ℕ) coded_unit };
-
-    ghost view = { λ a. finmap.from_entries a.map.entries };
-}
-
-impl RecordTree {
-    // Creates an empty set. Allocates nothing.
-    fn new(alloc: Global) -> Self
-        ensures { result ≡ finmap.empty }
-    {
-        Self {
-            map: BTreeMap::new(alloc),
-        }
-    }
-
-    // Returns the number of records.
-    fn len(&self) -> usize
-        ensures len { result ≡ finmap.len self.now }
-        ensures small { result < 9223372036854775808 }
-    {
-        self.map.len()
-    }
-
-    // Returns whether a record is in the set.
-    fn contains(&self, key: &Key, place: u32) -> bool
-        ensures { result ≡ finmap.contains_key self.now (key.now, place) }
-    {
-        self.map.contains_key(&(*key, place))
-    }
-
-    // Inserts a record. On `Err`, which means out of memory, the set is unchanged.
-    fn insert(&mut self, key: Key, place: u32) -> Result<(), AllocError>
-        ensures ok { OnOk result (self.new ≡ finmap.insert self.old (key, place) tt) }
-        ensures err { OnErr result (self.new ≡ self.old) }
-        ensures absent { OnErr result (IsAbsent self.old (key, place)) }
-    {
-        self.map.insert((key, place), ())?;
-        Ok(())
-    }
-
-    // Returns a copy of the set. `Err` means out of memory.
-    fn snapshot(&self) -> Result<RecordTree, AllocError>
-        ensures { IfOk result (λ m. m ≡ self.now) }
-    {
-        Ok(RecordTree {
-            map: self.map.clone()?,
-        })
-    }
-
-    // Removes all records. Allocates nothing.
-    fn clear(&mut self)
-        ensures { self.new ≡ finmap.empty }
-    {
-        if self.map.len() != 0 {
-            self.map.clear();
-        }
-    }
-
-    // Removes and returns one of the records, or `None` if the set is empty. Allocates nothing.
-    fn pop(&mut self) -> Option<(Key, u32)>
-        ensures there { IfSome result (λ p. finmap.contains_key self.old p ≡ true) }
-        ensures some { IfSome result (λ p. self.new ≡ finmap.remove self.old p) }
-        ensures none { IfNone result ((self.new ≡ self.old)
-            × ((p : List ℕ × ℕ) → IsAbsent self.old p)) }
-    {
-        let Some((place, _)) = self.map.pop_first() else {
-            return None;
-        };
-        Some(place)
     }
 }

@@ -11,9 +11,10 @@ use Rattle.i8080.specs.Reading.{Reading, end_of, asked}
 use Rattle.i8080.specs.End.{End}
 use Rattle.i8080.specs.Instruction.{instruction, decided}
 use Rattle.i8080.specs.Opcodes.{decoded, opcode_of}
+use Rattle.i8080.specs.Operands.{byte_count}
 use Rattle.i8080.proofs.Decoding.{decoded_some}
 use Rattle.i8080.specs.Performs.{did_of}
-use Rattle.i8080.specs.Attempts.{Guesses, TriesByte}
+use Rattle.i8080.specs.Attempts.{AreReadable, Guesses, IsKept, TriesByte}
 use Rattle.i8080.specs.Moves.{Moves, MovesByte}
 use Rattle.known_run.specs.KnownRun.{GoesOn, RunsKnown}
 
@@ -73,6 +74,10 @@ module _ {X : Type 0} (r : Regs) (m : Memory) (r' : Regs) (m' : Memory) (quiet :
 pub arm : {X M : Type 0} (memory : M → Memory) (sure : Bool) (byte pc : ℕ) (r : Regs) (m : Memory) (ready : ℕ → Bool) (result : Result ℕ X) (r' : Regs) (m' : M) (op : Op) (done : Result ℕ X) (x : Regs) (y : M)
     → byte ≡ opcode_of op → result ≡ done → r' ≡ x → m' ≡ y → Moves sure op pc r m ready done x (memory y) → MovesByte sure byte pc r m ready result r' (memory m')
 arm memory sure byte pc r m ready result r' m' op done x y e f g h a = let decodes : decoded byte ≡ Some op = decoded_some op byte (sym e) in rw (decodes, f, g, h) a.tries.attempts
+
+-- The bytes of the instruction with this opcode can be read, if the opcode is kept.
+pub operand_readable : (readable : ℕ → Bool) (pc byte k n : ℕ) → (IsKept byte → AreReadable readable pc (byte_count (decoded byte))) → byte ≡ k → IsKept k → byte_count (decoded k) ≡ n → AreReadable readable pc n
+operand_readable readable pc byte k n kept e some count = subst (λ (j : ℕ). AreReadable readable pc j) count (subst (λ (b : ℕ). AreReadable readable pc (byte_count (decoded b))) e (kept (λ h. some (sym e ∙ h))))
 
 -- HLT does not go on.
 halts : {X : Type 0} (byte : ℕ) (r : Regs) (m : Memory) (ready : ℕ → Bool) (r' : Regs) (m' : Memory) → byte ≡ 118 → TriesByte {X = X} false byte r m ready (Ok did.Went) r' m' → ⊥

@@ -1,4 +1,7 @@
 ghost use Rattle.std.specs.Prelude.{◌≡◌, ◌≤◌, true, false, Ok, IfNone, IfSome};
+ghost use Rattle.i8080.specs.Attempts.{AreReadable, IsKept};
+ghost use Rattle.i8080.specs.Opcodes.{decoded};
+ghost use Rattle.i8080.specs.Operands.{byte_count};
 ghost use Rattle.i8080.specs.Moves.{Moves, MovesByte, did_next, pc_after, with_pc};
 ghost use Rattle.i8080.specs.declared.opcode.Arithmetic.TheVariants.{Add, Adc, Sub, Sbb, Ana, Xra, Ora, Cmp};
 ghost use Rattle.i8080.specs.declared.opcode.Op.TheVariants.{Accumulate, Mov};
@@ -101,65 +104,9 @@ fn cmp<M: Access>(regs: &mut Regs, pc: u16, bus: &mut M, from: Place) -> Result<
     accumulate(regs, pc, bus, Arithmetic::Cmp, from)
 }
 
-#[inline(always)]
-fn to_b<M: Access>(regs: &mut Regs, pc: u16, bus: &mut M, from: Place) -> Result<u16, M::Refusal>
-    ensures { Moves M.is_sure (Mov B from) pc regs.old (M.memory bus.old) (M.is_ready bus.old)
-        result regs.new (M.memory bus.new) }
-{
-    mov(regs, pc, bus, Register::B, from)
-}
-
-#[inline(always)]
-fn to_c<M: Access>(regs: &mut Regs, pc: u16, bus: &mut M, from: Place) -> Result<u16, M::Refusal>
-    ensures { Moves M.is_sure (Mov C from) pc regs.old (M.memory bus.old) (M.is_ready bus.old)
-        result regs.new (M.memory bus.new) }
-{
-    mov(regs, pc, bus, Register::C, from)
-}
-
-#[inline(always)]
-fn to_d<M: Access>(regs: &mut Regs, pc: u16, bus: &mut M, from: Place) -> Result<u16, M::Refusal>
-    ensures { Moves M.is_sure (Mov D from) pc regs.old (M.memory bus.old) (M.is_ready bus.old)
-        result regs.new (M.memory bus.new) }
-{
-    mov(regs, pc, bus, Register::D, from)
-}
-
-#[inline(always)]
-fn to_e<M: Access>(regs: &mut Regs, pc: u16, bus: &mut M, from: Place) -> Result<u16, M::Refusal>
-    ensures { Moves M.is_sure (Mov E from) pc regs.old (M.memory bus.old) (M.is_ready bus.old)
-        result regs.new (M.memory bus.new) }
-{
-    mov(regs, pc, bus, Register::E, from)
-}
-
-#[inline(always)]
-fn to_h<M: Access>(regs: &mut Regs, pc: u16, bus: &mut M, from: Place) -> Result<u16, M::Refusal>
-    ensures { Moves M.is_sure (Mov H from) pc regs.old (M.memory bus.old) (M.is_ready bus.old)
-        result regs.new (M.memory bus.new) }
-{
-    mov(regs, pc, bus, Register::H, from)
-}
-
-#[inline(always)]
-fn to_l<M: Access>(regs: &mut Regs, pc: u16, bus: &mut M, from: Place) -> Result<u16, M::Refusal>
-    ensures { Moves M.is_sure (Mov L from) pc regs.old (M.memory bus.old) (M.is_ready bus.old)
-        result regs.new (M.memory bus.new) }
-{
-    mov(regs, pc, bus, Register::L, from)
-}
-
-#[inline(always)]
-fn to_a<M: Access>(regs: &mut Regs, pc: u16, bus: &mut M, from: Place) -> Result<u16, M::Refusal>
-    ensures { Moves M.is_sure (Mov A from) pc regs.old (M.memory bus.old) (M.is_ready bus.old)
-        result regs.new (M.memory bus.new) }
-{
-    mov(regs, pc, bus, Register::A, from)
-}
-
 // Executes the instruction of one of the opcodes that programs use least, which have a jump table of their own. Returns `None`,
 // and changes nothing, for any other byte.
-#[tactic(auto, unfolding(i8080::specs::Opcodes::decoded))]
+#[tactic(auto, using(crate::proofs::KnownRunLemmas::operand_readable), unfolding(i8080::specs::Opcodes::decoded))]
 #[inline(always)]
 fn rare<M: Access>(
     regs: &mut Regs,
@@ -167,6 +114,7 @@ fn rare<M: Access>(
     bus: &mut M,
     byte: u8,
 ) -> Option<Result<u16, M::Refusal>>
+    requires { IsKept byte → AreReadable (M.is_readable bus.old) pc (byte_count (decoded byte)) }
     ensures executed { IfSome result (λ next. MovesByte M.is_sure byte pc
         regs.old (M.memory bus.old) (M.is_ready bus.old) next regs.new (M.memory bus.new)) }
     ensures regs { IfNone result (regs.new ≡ regs.old) }
@@ -181,20 +129,20 @@ fn rare<M: Access>(
         0x39 => Some(dad(regs, pc, bus, Pair::Sp)),
         0x3b => Some(dcx(regs, pc, bus, Pair::Sp)),
         0x3f => Some(cmc(regs, pc, bus)),
-        0x40 => Some(to_b(regs, pc, bus, IN_B)),
-        0x45 => Some(to_b(regs, pc, bus, IN_L)),
-        0x49 => Some(to_c(regs, pc, bus, IN_C)),
-        0x52 => Some(to_d(regs, pc, bus, IN_D)),
-        0x55 => Some(to_d(regs, pc, bus, IN_L)),
-        0x5b => Some(to_e(regs, pc, bus, IN_E)),
-        0x63 => Some(to_h(regs, pc, bus, IN_E)),
-        0x64 => Some(to_h(regs, pc, bus, IN_H)),
-        0x65 => Some(to_h(regs, pc, bus, IN_L)),
-        0x6c => Some(to_l(regs, pc, bus, IN_H)),
-        0x6d => Some(to_l(regs, pc, bus, IN_L)),
+        0x40 => Some(mov(regs, pc, bus, Register::B, IN_B)),
+        0x45 => Some(mov(regs, pc, bus, Register::B, IN_L)),
+        0x49 => Some(mov(regs, pc, bus, Register::C, IN_C)),
+        0x52 => Some(mov(regs, pc, bus, Register::D, IN_D)),
+        0x55 => Some(mov(regs, pc, bus, Register::D, IN_L)),
+        0x5b => Some(mov(regs, pc, bus, Register::E, IN_E)),
+        0x63 => Some(mov(regs, pc, bus, Register::H, IN_E)),
+        0x64 => Some(mov(regs, pc, bus, Register::H, IN_H)),
+        0x65 => Some(mov(regs, pc, bus, Register::H, IN_L)),
+        0x6c => Some(mov(regs, pc, bus, Register::L, IN_H)),
+        0x6d => Some(mov(regs, pc, bus, Register::L, IN_L)),
         0x74 => Some(mov_to_memory(regs, pc, bus, Register::H)),
         0x75 => Some(mov_to_memory(regs, pc, bus, Register::L)),
-        0x7f => Some(to_a(regs, pc, bus, IN_A)),
+        0x7f => Some(mov(regs, pc, bus, Register::A, IN_A)),
         0x88 => Some(adc(regs, pc, bus, IN_B)),
         0x8a => Some(adc(regs, pc, bus, IN_D)),
         0x8b => Some(adc(regs, pc, bus, IN_E)),
@@ -260,6 +208,7 @@ fn rare<M: Access>(
 // Executes at most `steps` instructions that programs use most, up to the first other one or the first that the memory refuses.
 //
 // The match has an arm for each byte, so that its jump table needs no test of the byte.
+#[tactic(auto, using(crate::proofs::KnownRunLemmas::operand_readable), unfolding(i8080::specs::Opcodes::decoded))]
 #[inline(always)]
 fn run_common<M: Access>(regs: &mut Regs, pc: u16, bus: &mut M, steps: u64) -> Ran
     requires { M.is_sure ≡ false }
@@ -337,53 +286,53 @@ fn run_common<M: Access>(regs: &mut Regs, pc: u16, bus: &mut M, steps: u64) -> R
             0x3e => mvi(regs, pc, bus, IN_A),
             0x3f => return Ran { done, pc },
             0x40 => return Ran { done, pc },
-            0x41 => to_b(regs, pc, bus, IN_C),
-            0x42 => to_b(regs, pc, bus, IN_D),
-            0x43 => to_b(regs, pc, bus, IN_E),
-            0x44 => to_b(regs, pc, bus, IN_H),
+            0x41 => mov(regs, pc, bus, Register::B, IN_C),
+            0x42 => mov(regs, pc, bus, Register::B, IN_D),
+            0x43 => mov(regs, pc, bus, Register::B, IN_E),
+            0x44 => mov(regs, pc, bus, Register::B, IN_H),
             0x45 => return Ran { done, pc },
-            0x46 => to_b(regs, pc, bus, AT_HL),
-            0x47 => to_b(regs, pc, bus, IN_A),
-            0x48 => to_c(regs, pc, bus, IN_B),
+            0x46 => mov(regs, pc, bus, Register::B, AT_HL),
+            0x47 => mov(regs, pc, bus, Register::B, IN_A),
+            0x48 => mov(regs, pc, bus, Register::C, IN_B),
             0x49 => return Ran { done, pc },
-            0x4a => to_c(regs, pc, bus, IN_D),
-            0x4b => to_c(regs, pc, bus, IN_E),
-            0x4c => to_c(regs, pc, bus, IN_H),
-            0x4d => to_c(regs, pc, bus, IN_L),
-            0x4e => to_c(regs, pc, bus, AT_HL),
-            0x4f => to_c(regs, pc, bus, IN_A),
-            0x50 => to_d(regs, pc, bus, IN_B),
-            0x51 => to_d(regs, pc, bus, IN_C),
+            0x4a => mov(regs, pc, bus, Register::C, IN_D),
+            0x4b => mov(regs, pc, bus, Register::C, IN_E),
+            0x4c => mov(regs, pc, bus, Register::C, IN_H),
+            0x4d => mov(regs, pc, bus, Register::C, IN_L),
+            0x4e => mov(regs, pc, bus, Register::C, AT_HL),
+            0x4f => mov(regs, pc, bus, Register::C, IN_A),
+            0x50 => mov(regs, pc, bus, Register::D, IN_B),
+            0x51 => mov(regs, pc, bus, Register::D, IN_C),
             0x52 => return Ran { done, pc },
-            0x53 => to_d(regs, pc, bus, IN_E),
-            0x54 => to_d(regs, pc, bus, IN_H),
+            0x53 => mov(regs, pc, bus, Register::D, IN_E),
+            0x54 => mov(regs, pc, bus, Register::D, IN_H),
             0x55 => return Ran { done, pc },
-            0x56 => to_d(regs, pc, bus, AT_HL),
-            0x57 => to_d(regs, pc, bus, IN_A),
-            0x58 => to_e(regs, pc, bus, IN_B),
-            0x59 => to_e(regs, pc, bus, IN_C),
-            0x5a => to_e(regs, pc, bus, IN_D),
+            0x56 => mov(regs, pc, bus, Register::D, AT_HL),
+            0x57 => mov(regs, pc, bus, Register::D, IN_A),
+            0x58 => mov(regs, pc, bus, Register::E, IN_B),
+            0x59 => mov(regs, pc, bus, Register::E, IN_C),
+            0x5a => mov(regs, pc, bus, Register::E, IN_D),
             0x5b => return Ran { done, pc },
-            0x5c => to_e(regs, pc, bus, IN_H),
-            0x5d => to_e(regs, pc, bus, IN_L),
-            0x5e => to_e(regs, pc, bus, AT_HL),
-            0x5f => to_e(regs, pc, bus, IN_A),
-            0x60 => to_h(regs, pc, bus, IN_B),
-            0x61 => to_h(regs, pc, bus, IN_C),
-            0x62 => to_h(regs, pc, bus, IN_D),
+            0x5c => mov(regs, pc, bus, Register::E, IN_H),
+            0x5d => mov(regs, pc, bus, Register::E, IN_L),
+            0x5e => mov(regs, pc, bus, Register::E, AT_HL),
+            0x5f => mov(regs, pc, bus, Register::E, IN_A),
+            0x60 => mov(regs, pc, bus, Register::H, IN_B),
+            0x61 => mov(regs, pc, bus, Register::H, IN_C),
+            0x62 => mov(regs, pc, bus, Register::H, IN_D),
             0x63 => return Ran { done, pc },
             0x64 => return Ran { done, pc },
             0x65 => return Ran { done, pc },
-            0x66 => to_h(regs, pc, bus, AT_HL),
-            0x67 => to_h(regs, pc, bus, IN_A),
-            0x68 => to_l(regs, pc, bus, IN_B),
-            0x69 => to_l(regs, pc, bus, IN_C),
-            0x6a => to_l(regs, pc, bus, IN_D),
-            0x6b => to_l(regs, pc, bus, IN_E),
+            0x66 => mov(regs, pc, bus, Register::H, AT_HL),
+            0x67 => mov(regs, pc, bus, Register::H, IN_A),
+            0x68 => mov(regs, pc, bus, Register::L, IN_B),
+            0x69 => mov(regs, pc, bus, Register::L, IN_C),
+            0x6a => mov(regs, pc, bus, Register::L, IN_D),
+            0x6b => mov(regs, pc, bus, Register::L, IN_E),
             0x6c => return Ran { done, pc },
             0x6d => return Ran { done, pc },
-            0x6e => to_l(regs, pc, bus, AT_HL),
-            0x6f => to_l(regs, pc, bus, IN_A),
+            0x6e => mov(regs, pc, bus, Register::L, AT_HL),
+            0x6f => mov(regs, pc, bus, Register::L, IN_A),
             0x70 => mov_to_memory(regs, pc, bus, Register::B),
             0x71 => mov_to_memory(regs, pc, bus, Register::C),
             0x72 => mov_to_memory(regs, pc, bus, Register::D),
@@ -392,13 +341,13 @@ fn run_common<M: Access>(regs: &mut Regs, pc: u16, bus: &mut M, steps: u64) -> R
             0x75 => return Ran { done, pc },
             0x76 => return Ran { done, pc },
             0x77 => mov_to_memory(regs, pc, bus, Register::A),
-            0x78 => to_a(regs, pc, bus, IN_B),
-            0x79 => to_a(regs, pc, bus, IN_C),
-            0x7a => to_a(regs, pc, bus, IN_D),
-            0x7b => to_a(regs, pc, bus, IN_E),
-            0x7c => to_a(regs, pc, bus, IN_H),
-            0x7d => to_a(regs, pc, bus, IN_L),
-            0x7e => to_a(regs, pc, bus, AT_HL),
+            0x78 => mov(regs, pc, bus, Register::A, IN_B),
+            0x79 => mov(regs, pc, bus, Register::A, IN_C),
+            0x7a => mov(regs, pc, bus, Register::A, IN_D),
+            0x7b => mov(regs, pc, bus, Register::A, IN_E),
+            0x7c => mov(regs, pc, bus, Register::A, IN_H),
+            0x7d => mov(regs, pc, bus, Register::A, IN_L),
+            0x7e => mov(regs, pc, bus, Register::A, AT_HL),
             0x7f => return Ran { done, pc },
             0x80 => add(regs, pc, bus, IN_B),
             0x81 => add(regs, pc, bus, IN_C),

@@ -1,2 +1,3 @@
 pub mod Typed
 pub mod Loading
+pub use Rattle.machine.specs.Inputs

@@ -15,7 +15,6 @@ use faults::Fault;
 use folders::{FileSystem, Listing, read_folders};
 use hostfiles::HostFiles;
 use machine::{PROGRAM_LIMIT, SCRIPT_LIMIT, Session};
-use std::alloc::Global;
 use std::io;
 use std::io::ErrorKind;
 
@@ -103,17 +102,6 @@ fn script_of<'a, S: FileSystem>(
     }
 }
 
-/// Returns a copy of the command tail.
-fn tail_of<'a>(alloc: Global, words: &SessionWords<'a>) -> Result<Vec<u8>, Fault<'a>>
-    ensures tail { IfOk result (λ tail. tail.items ≡ words.now.tail.now) }
-    ensures memory { IfErr result (λ fault. fault ≡ Fault.OutOfMemory) }
-{
-    match words.tail.as_bytes().to_vec(alloc) {
-        Ok(tail) => Ok(tail),
-        Err(_) => Err(Fault::OutOfMemory),
-    }
-}
-
 /// Returns the session of these parts, or its refusal. Allocates nothing.
 fn session_of<'a>(
     program: Vec<u8>,
@@ -139,6 +127,21 @@ pub struct Loaded {
     pub listings: [Option<Listing>; 4],
 }
 
+impl Loaded {
+    ghost use Rattle.std.specs.Prelude.{◌≡◌};
+
+    /// Returns the session alone.
+    pub fn into_session(self) -> Session
+        ensures { result ≡ self.session }
+    {
+        let Loaded {
+            session,
+            listings: _,
+        } = self;
+        session
+    }
+}
+
 /// Loads the session that the words describe: reads the program, the folders of the drives A to D and the script, in this order. A
 /// script that is given as text is not read.
 ///
@@ -157,7 +160,7 @@ pub fn load<'a, S: FileSystem>(
     ensures fault { IfErr result (FailsToLoad (S.files system.old) words.now) }
     ensures unchanged { KeepsFiles file_paths result (S.files system.old) (S.files system.new) }
 {
-    let tail = tail_of(system.alloc(), words)?;
+    let tail = words.tail.as_bytes().to_vec(system.alloc())?;
     let typed = typed_script(system.alloc(), words.typed)?;
     let program = program_at(system, words.program)?;
     let read = read_folders(system, &words.files)?;

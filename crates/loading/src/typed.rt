@@ -1,7 +1,7 @@
 // A script as typed text.
 
 ghost use Rattle.std.specs.Prelude.{◌≡◌, [], IfErr, IfOk, MatchOption, OnOk, option_map};
-ghost use Rattle.loading.specs.Typed as texts;
+ghost use Rattle.loading.specs.Typed as typed_scripts;
 ghost use Rattle.loading.specs.Loading.{IsTypedFault, IsTypedScript};
 
 use faults::Fault;
@@ -10,7 +10,7 @@ use std::alloc::{AllocError, Global};
 
 // Returns the byte of the two hexadecimal digits with which a text begins, and the text after them.
 fn by_digits(text: &[u8]) -> Option<(u8, &[u8])>
-    ensures { option_map (λ r. (r.0, r.1.now)) result ≡ texts.by_digits text.now }
+    ensures { option_map (λ r. (r.0, r.1.now)) result ≡ typed_scripts.by_digits text.now }
 {
     if text.len() < 2 {
         return None;
@@ -24,7 +24,7 @@ fn by_digits(text: &[u8]) -> Option<(u8, &[u8])>
 
 // Returns the byte of a letter after a backslash.
 fn letter_byte(letter: u8) -> Option<u8>
-    ensures { result ≡ texts.letter_byte letter }
+    ensures { result ≡ typed_scripts.letter_byte letter }
 {
     match letter {
         b'r' => Some(b'\r'),
@@ -37,7 +37,7 @@ fn letter_byte(letter: u8) -> Option<u8>
 
 // Returns the byte of the text after a backslash, and the text after it.
 fn escaped(text: &[u8]) -> Option<(u8, &[u8])>
-    ensures { option_map (λ r. (r.0, r.1.now)) result ≡ texts.escaped text.now }
+    ensures { option_map (λ r. (r.0, r.1.now)) result ≡ typed_scripts.escaped text.now }
 {
     let (letter, rest) = text.split_first()?;
     if *letter == b'x' {
@@ -48,7 +48,7 @@ fn escaped(text: &[u8]) -> Option<(u8, &[u8])>
 
 // Returns the first byte of a text, and the text after it.
 fn first_typed(text: &[u8]) -> Option<(u8, &[u8])>
-    ensures { option_map (λ r. (r.0, r.1.now)) result ≡ texts.first_typed text.now }
+    ensures { option_map (λ r. (r.0, r.1.now)) result ≡ typed_scripts.first_typed text.now }
 {
     let (first, rest) = text.split_first()?;
     if *first == b'\\' {
@@ -59,7 +59,7 @@ fn first_typed(text: &[u8]) -> Option<(u8, &[u8])>
 
 // Returns the bytes of a text.
 fn typed_bytes<'a>(alloc: Global, text: &'a str) -> Result<Vec<u8>, Fault<'a>>
-    ensures bytes { IfOk result (λ bytes. texts.Gives text.entry.now bytes.items []) }
+    ensures bytes { IfOk result (λ bytes. typed_scripts.Gives text.entry.now bytes.items []) }
     ensures fault { IfErr result (IsTypedFault text.entry) }
 {
     let mut bytes = Vec::new(alloc);
@@ -78,7 +78,7 @@ fn typed_bytes<'a>(alloc: Global, text: &'a str) -> Result<Vec<u8>, Fault<'a>>
 
 // Adds a carriage return to bytes that do not end with one.
 fn end_line(bytes: &mut Vec<u8>) -> Result<(), AllocError>
-    ensures { OnOk result (bytes.new.items ≡ texts.as_line bytes.old.items) }
+    ensures { OnOk result (bytes.new.items ≡ typed_scripts.as_line bytes.old.items) }
 {
     match bytes.last() {
         Some(b'\r') => Ok(()),
@@ -96,8 +96,6 @@ pub fn typed_script<'a>(alloc: Global, text: Option<&'a str>) -> Result<Option<V
         return Ok(None);
     };
     let mut bytes = typed_bytes(alloc, text)?;
-    match end_line(&mut bytes) {
-        Ok(()) => Ok(Some(bytes)),
-        Err(_) => Err(Fault::OutOfMemory),
-    }
+    end_line(&mut bytes)?;
+    Ok(Some(bytes))
 }

@@ -1,5 +1,6 @@
 -- Instructions over known cells are steps that look at nothing new.
-use Rattle.std.proofs.Common.{inl, inr, ◌≡◌, ◌≢◌, ◌<◌, ℕ, zero, suc, ◌+◌, true, List, length, Some, None, Ok, sym, ◌∙◌, ap, subst, arith}
+use Rattle.std.proofs.Common.{inl, inr, ◌≡◌, ◌≢◌, false, ◌<◌, ℕ, zero, suc, ◌+◌, true, List, length, Some, None, Ok, sym, ◌∙◌, ap, subst, arith}
+use Rattle.std.proofs.lemmas.Bool.{ne_eqb}
 use Rattle.std.proofs.lemmas.Bool.Decides.{eqb_tells}
 use Rattle.i8080.specs.declared.registers.Regs.{Regs}
 use Rattle.i8080.specs.declared.outcome.Did.TheVariants as did
@@ -13,6 +14,7 @@ use Rattle.machine.specs.StateView.{AllLooks, PartialState}
 use Rattle.machine.specs.Machine.{session_answers, after}
 use Rattle.machine.specs.WrittenCells.{DeskAndFiles, state_with}
 use Rattle.machine.specs.TakesStep.{looks_in, view_with}
+use Rattle.machine.specs.Step.{bdos_entry, is_call, system_area}
 use Rattle.machine.specs.Stretch.{CallsNothing, LooksAtNothingNew, RunsQuietly}
 use Rattle.machine.proofs.FitLemmas.{sound_after}
 use Rattle.machine.proofs.StepLemmas.{Takes, instructed}
@@ -23,7 +25,7 @@ abbrev pub known_memory : Overlay → Memory
 known_memory o = record { own = own_of o; beneath = beneath_of o; looks = looks_of o; lender = None }
 
 abbrev pub RunsOver : ℕ → Regs → Overlay → Regs → Overlay → Type 0
-RunsOver = RunsKnown known_memory 0xfe00
+RunsOver = RunsKnown known_memory system_area
 
 same_image : (n : ℕ) (r : Regs) (o : Overlay) (r' : Regs) (o' : Overlay) → RunsOver n r o r' o' → beneath_of o' ≡ beneath_of o
 same_image zero r o r' o' ran = ap (λ (m : Memory). m.beneath) ran.1
@@ -42,16 +44,15 @@ one_more from n = omega arith
 abbrev with_cells : DeskAndFiles → List ℕ → AllLooks
 with_cells d cells = record { cells = cells; offsets = d.offsets; files = d.asks }
 
-no_call_here : (s : Session) (n : ℕ) (here st : PartialState) → after (session_answers s) n ≡ Some here → here.core.regs.pc < 0xfe00
-    → after (session_answers s) n ≡ Some st → st.core.regs.pc ≢ 0xfe06
-no_call_here s n here st at low there is =
+no_call_here : (s : Session) (n : ℕ) (here st : PartialState) → after (session_answers s) n ≡ Some here → here.core.regs.pc < system_area → after (session_answers s) n ≡ Some st
+    → is_call st.core ≡ false
+no_call_here s n here st at low there =
     let same : Some here ≡ Some st = sym at ∙ there in
     let equal : here ≡ st = cc in
-    let pc : here.core.regs.pc ≡ 0xfe06 = ap (λ (x : PartialState). x.core.regs.pc) equal ∙ is in
-    omega (arith, low, pc)
+    ap (λ (x : PartialState). is_call x.core) (sym equal) ∙ ne_eqb here.core.regs.pc bdos_entry (omega (arith, low))
 
 -- One more step below the system area.
-no_more_calls : (s : Session) (from n : ℕ) (here : PartialState) → after (session_answers s) n ≡ Some here → here.core.regs.pc < 0xfe00
+no_more_calls : (s : Session) (from n : ℕ) (here : PartialState) → after (session_answers s) n ≡ Some here → here.core.regs.pc < system_area
     → CallsNothing (session_answers s) from n → CallsNothing (session_answers s) from (n + 1)
 no_more_calls s from n here at low before i st above below there = elim (eqb_tells i n) [
   | inl same ↦ no_call_here s n here st at low (subst (λ (k : ℕ). after (session_answers s) k ≡ Some st) same.1 there)

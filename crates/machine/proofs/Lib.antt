@@ -6,10 +6,7 @@ pub mod FitLemmas
 pub mod StepLemmas
 pub mod StretchLemmas
 pub mod KnownSteps
-mod Forgetting
-mod CallStretches
 pub mod PlainViews
-pub mod JoinedStretches
 pub mod TidyFiles
 pub mod WholeFiles
 pub mod ChangedFileLemmas
@@ -19,8 +16,7 @@ pub mod SpliceLemmas
 pub mod FirstLemmas
 pub mod AskedLemmas
 pub mod NoteLemmas
-pub mod StretchNotes
-pub mod StepNotes
+mod RunSteps
 pub mod ColdLemmas
 pub mod WholeRuns
 mod TrialLemmas

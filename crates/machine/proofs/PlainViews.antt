@@ -1,5 +1,5 @@
 -- The state of a run on the plain machine.
-use Rattle.std.proofs.Common.{◌≡◌, ◌≢◌, ℕ, ◌+◌, ◌<◌, Option, Some, None, Ok, Err, IfOk, IfNone, IfSome, unwrap_or, refl, sym, ◌∙◌, ap, arith, add-one}
+use Rattle.std.proofs.Common.{◌≡◌, true, false, ℕ, ◌+◌, ◌<◌, Option, Some, None, Ok, Err, IfOk, IfNone, IfSome, unwrap_or, refl, sym, ◌∙◌, ap, arith, add-one}
 use Rattle.std.specs.declared.result.Result.{Result}
 use Rattle.std.specs.declared.alloc.AllocError.{AllocError}
 use Rattle.std.specs.Option.{option_map}
@@ -15,8 +15,10 @@ use Rattle.machine.specs.Session.{image_of, IsSession}
 use Rattle.machine.specs.Machine.{session_answers, after, cell_at, outcome}
 use Rattle.machine.specs.PlainLaid.{laid_state, plain_after}
 use Rattle.machine.specs.PlainState.{PlainState, loaded_machine, plain_outcome}
-use Rattle.machine.specs.Runs.{Leads, MakesNoCall, RunView, StopsBelow, StopsHere, EndsBy, IsAtCall, state_of}
-use Rattle.machine.specs.Stretch.{CallsNothing, RunsTo, RunsToCall}
+use Rattle.machine.specs.Runs.{Leads, MakesNoCall, RunView, StopsHere, EndsBy, state_of}
+use Rattle.machine.specs.declared.stretch.Until.TheVariants.{Call, End}
+use Rattle.machine.specs.Step.{is_call}
+use Rattle.machine.specs.Stretch.{CallsNothing, RunsTo}
 use Rattle.std.specs.FinMap as finmap
 use Rattle.machine.specs.WrittenCells.{DeskAndFiles, state_with, written_cells}
 use Rattle.i8080.specs.declared.registers.Regs.{Regs}
@@ -39,9 +41,17 @@ module _ (r : RunView) (st : PartialState) (is : IsSession r.session) (at : afte
   pub plain_stop : (cause : Cause) → outcome (session_answers r.session) st ≡ Stop cause → StopsHere r cause
   plain_stop cause stops = ap (plain_outcome r.session) state_is ∙ plain_machine_is_laid.outcomes r.session is r.step st at ∙ ap (map_outcome (laid_state r.session)) stops
 
--- A stop comes where a run is.
-pub stop_seen : (r : RunView) (end : ℕ) (cause : Cause) → IsSession r.session → StopsBelow (session_answers r.session) end r.step cause → StopsHere r cause
-stop_seen r end cause is (below, st, at, stops) = plain_stop r st is at cause stops
+-- Where a run ended.
+module _ (s : Session) (from end n : ℕ) (seen : Option ℕ) (st : PartialState) (is : IsSession s) where
+  pub ends_by : (result : Result (Option Cause) AllocError) → RunsTo End s from end n result st → IfOk result (λ stop. EndsBy (record { session = s; step = n; seen = seen }) end stop)
+  ends_by (Ok None) w = w.ended
+  ends_by (Ok (Some cause)) w = (w.stopped.0, st, w.at, w.stopped.1)
+  ends_by (Err e) w = tt
+
+  pub stops_here : (result : Result (Option Cause) AllocError) → RunsTo End s from end n result st → IfOk result (λ stop. IfSome stop (StopsHere (record { session = s; step = n; seen = seen })))
+  stops_here (Ok None) w = tt
+  stops_here (Ok (Some cause)) w = plain_stop (record { session = s; step = n; seen = seen }) st is w.at cause w.stopped.1
+  stops_here (Err e) w = tt
 
 -- The byte of a cell is the written one, or else the session's.
 pub byte_is : (s : Session) (regs : Regs) (d : DeskAndFiles) (own : ℕ → Option ℕ) → InCells own → (a : ℕ) → unwrap_or (own a) (image_of s a) ≡ cell_at s (state_with regs d own) a
@@ -56,12 +66,12 @@ plain_byte r st is at a below = sym (ap (λ (w : PlainState). slice_index w.memo
 -- Steps that are no calls are none on the plain machine.
 pub no_call : (s : Session) (from upto : ℕ) → IsSession s → CallsNothing (session_answers s) from upto → MakesNoCall s from upto
 no_call s from upto is calls i w low high there = pick (after (session_answers s) i) refl where
-  pick : (o : Option PartialState) → after (session_answers s) i ≡ o → w.core.regs.pc ≢ 0xfe06
-  pick None e pc = let none : Some w ≡ None = sym there ∙ plain_machine_is_laid.states s is i ∙ ap (option_map (laid_state s)) e in absurd (cc)
-  pick (Some st) e pc =
+  pick : (o : Option PartialState) → after (session_answers s) i ≡ o → is_call w.core ≡ false
+  pick None e = let none : Some w ≡ None = sym there ∙ plain_machine_is_laid.states s is i ∙ ap (option_map (laid_state s)) e in absurd (cc)
+  pick (Some st) e =
       let same : Some w ≡ Some (laid_state s st) = sym there ∙ plain_machine_is_laid.states s is i ∙ ap (option_map (laid_state s)) e in
       let equal : w ≡ laid_state s st = cc in
-      calls i st low high e (sym (ap (λ (x : PlainState). x.core.regs.pc) equal) ∙ pc)
+      ap (λ (x : PlainState). is_call x.core) equal ∙ calls i st low high e
 
 -- One step, or a stop.
 module _ (s : Session) (from n : ℕ) (seen seen' : Option ℕ) (st st' : PartialState) (is : IsSession s) (at : after (session_answers s) from ≡ Some st) (at' : after (session_answers s) n ≡ Some st') where
@@ -90,7 +100,7 @@ module _ (s : Session) (from n : ℕ) (seen seen' : Option ℕ) (st st' : Partia
       let equal : st' ≡ st = cc in
       plain_stop before st is at cause (ap (outcome (session_answers s)) (sym equal) ∙ stops)
 
-  pub leads : (result : Result (Option Cause) AllocError) → RunsTo s from (from + 1) n result st' → IfOk result (λ stop. Leads before then stop)
+  pub leads : (result : Result (Option Cause) AllocError) → RunsTo End s from (from + 1) n result st' → IfOk result (λ stop. Leads before then stop)
   leads (Ok None) w = (w.ended, leads_on w.ended)
   leads (Ok (Some cause)) w =
       let none : n ≡ from = omega (arith, w.within, w.stopped.0) in
@@ -102,20 +112,20 @@ module _ (s : Session) (from end n : ℕ) (seen : Option ℕ) (st : PartialState
   abbrev reached : RunView
   reached = record { session = s; step = n; seen = seen }
 
-  pc_is : after (session_answers s) n ≡ Some st → (state_of reached).core.regs.pc ≡ st.core.regs.pc
-  pc_is at = ap (λ (w : PlainState). w.core.regs.pc) (state_is reached st is at)
+  same_kind : after (session_answers s) n ≡ Some st → is_call (state_of reached).core ≡ is_call st.core
+  same_kind at = ap (λ (w : PlainState). is_call w.core) (state_is reached st is at)
 
-  pub arrives : (result : Result (Option Cause) AllocError) → RunsToCall s from end n result st → IfOk result (λ stop. IfNone stop (n < end → IsAtCall reached))
-  arrives (Ok None) w = λ below. pc_is w.at ∙ w.arrived below
+  pub arrives : (result : Result (Option Cause) AllocError) → RunsTo Call s from end n result st → IfOk result (λ stop. IfNone stop (n < end → is_call (state_of reached).core ≡ true))
+  arrives (Ok None) w = λ below. same_kind w.at ∙ w.ended below
   arrives (Ok (Some cause)) w = tt
   arrives (Err e) w = tt
 
-  pub ends_apart : (result : Result (Option Cause) AllocError) → RunsToCall s from end n result st
-      → IfOk result (λ stop. IfSome stop (λ cause. EndsBy reached end (Some cause) × (IsAtCall reached → ⊥) × StopsHere reached cause))
+  pub ends_apart : (result : Result (Option Cause) AllocError) → RunsTo Call s from end n result st
+      → IfOk result (λ stop. IfSome stop (λ cause. EndsBy reached end (Some cause) × (is_call (state_of reached).core ≡ false) × StopsHere reached cause))
   ends_apart (Ok None) w = tt
   ends_apart (Ok (Some cause)) w = (
-    (w.stopped.0, st, w.at, w.stopped.2),
-    λ call. w.stopped.1 (sym (pc_is w.at) ∙ call),
-    plain_stop reached st is w.at cause w.stopped.2,
+    (w.stopped.0, st, w.at, w.stopped.1),
+    same_kind w.at ∙ w.apart refl,
+    plain_stop reached st is w.at cause w.stopped.1,
   )
   ends_apart (Err e) w = tt

@@ -1,5 +1,5 @@
 -- Steps one after another, of which only the last looks at anything new.
-use Rattle.std.proofs.Common.{inl, inr, ◌≡◌, ℕ, ◌<◌, ◌≤◌, ◌+◌, ◌-◌, ◌||◌, Bool, true, false, List, length, Option, Some, None, Ok, Err, refl, sym, ◌∙◌, ap, subst, arith, ◌≢◌}
+use Rattle.std.proofs.Common.{inl, inr, ◌≡◌, ℕ, ◌+◌, ◌||◌, Bool, true, false, List, length, Option, Some, None, Ok, refl, sym, ◌∙◌, ap, subst, arith, ◌≢◌}
 use Rattle.std.proofs.lemmas.Bool.Decides.{eqb_tells}
 use Rattle.std.proofs.lemmas.List.{take_all}
 use Rattle.std.specs.declared.alloc.AllocError.{AllocError}
@@ -24,7 +24,7 @@ use Rattle.first_looks.specs.Questions.{is_in}
 use Rattle.machine.specs.Machine.{Answers, session_answers, session_tree, outcome_with, start, after, outcome, looks, looks_at, is_looked_at, AddsLooks, KeepsLooks}
 use Rattle.machine.specs.WrittenCells.{DeskAndFiles, state_with}
 use Rattle.machine.specs.TakesStep.{memory_over_image, looks_in, TakesStep}
-use Rattle.machine.specs.Stretch.{LooksAtNothingNew, RunsStretch}
+use Rattle.machine.specs.Stretch.{LooksAtNothingNew}
 use Rattle.interaction_trees.proofs.RunLemmas.{after_step}
 
 -- The looks at the state that was reached.
@@ -43,71 +43,10 @@ nothing_new_more f looked from n quiet here i low high q h = elim (eqb_tells i n
   | inr other ↦ quiet i low (let apart : i ≢ n = other.1 in omega arith) q h
 ]
 
-module _ (s : Session) (from end n : ℕ) (old new : StateView) (looked : AllLooks) (low : from ≤ n) (same : old.looked ≡ looked)
-    (at : after (session_answers s) n ≡ Some old.state) (quiet : LooksAtNothingNew (session_answers s) looked from n) where
-  before : LooksAtNothingNew (session_answers s) looked from (n - 1)
-  before i l h q = quiet i l (omega arith) q
-
-  -- The looks after the step.
-  looked_after : {result : Option Cause} → TakesStep s old (Ok result) new → AddsLooks looked (looks (session_answers s) n) new.looked
-  looked_after w q =
-      w.looked q
-      ∙ ap (λ (l : AllLooks). is_looked_at l q || is_in q (looks_at (session_answers s) old.state)) same
-      ∙ ap (λ (qs : List Question). is_looked_at looked q || is_in q qs) (sym (looks_here (session_answers s) n old.state at))
-
-  -- A stretch that ends with step n.
-  pub ends_by_step : n < end → TakesStep s old (Ok None) new → RunsStretch s from end looked (n + 1) (Ok None) new
-  ends_by_step high w = record {
-    within = (omega arith, omega arith);
-    at = after_step (outcome (session_answers s)) start n old.state _ at w.outcome;
-    stopped = tt;
-    failed = tt;
-    before_last = λ i l h q. quiet i l (omega arith) q;
-    before_stop = tt;
-    before_failure = tt;
-    last = λ past q. looked_after w q ∙ ap (λ (k : ℕ). is_looked_at looked q || is_in q (looks (session_answers s) k)) (omega arith);
-    none = λ back. absurd (omega (arith, back, low));
-    at_stop = tt;
-    extends = subst (λ (l : AllLooks). KeepsLooks l new.looked) same w.extends;
-    bounded = tt;
-  }
-
-  -- A stretch that ends before step n, which stops.
-  pub ends_by_stop : (cause : Cause) → n < end → TakesStep s old (Ok (Some cause)) new → RunsStretch s from end looked n (Ok (Some cause)) new
-  ends_by_stop cause high w = record {
-    within = (low, omega arith);
-    at = at ∙ ap (λ (st : PartialState). Some st) (sym w.stays);
-    stopped = (high, ap (outcome (session_answers s)) w.stays ∙ w.outcome);
-    failed = tt;
-    before_last = before;
-    before_stop = quiet;
-    before_failure = tt;
-    last = tt;
-    none = tt;
-    at_stop = looked_after w;
-    extends = subst (λ (l : AllLooks). KeepsLooks l new.looked) same w.extends;
-    bounded = tt;
-  }
-
-  -- A stretch that ends before step n, which fails.
-  pub ends_by_failure : (e : AllocError) → n < end → TakesStep s old (Err e) new → RunsStretch s from end looked n (Err e) new
-  ends_by_failure e high w = record {
-    within = (low, omega arith);
-    at = at ∙ ap (λ (st : PartialState). Some st) (sym w.failed);
-    stopped = tt;
-    failed = high;
-    before_last = before;
-    before_stop = tt;
-    before_failure = quiet;
-    last = tt;
-    none = tt;
-    at_stop = tt;
-    extends = subst (λ (l : AllLooks). KeepsLooks l new.looked) same w.extends;
-    bounded = λ q h.
-        ap (λ (l : AllLooks). is_looked_at l q || is_in q (looks (session_answers s) n)) (sym same)
-        ∙ ap (λ (qs : List Question). is_looked_at old.looked q || is_in q qs) (looks_here (session_answers s) n old.state at)
-        ∙ w.bounded q h;
-  }
+-- The looks after a step.
+pub looked_after : (s : Session) (n : ℕ) (old new : StateView) {stop : Option Cause} → after (session_answers s) n ≡ Some old.state → TakesStep s old (Ok stop) new
+    → AddsLooks old.looked (looks (session_answers s) n) new.looked
+looked_after s n old new at w q = w.looked q ∙ ap (λ (qs : List Question). is_looked_at old.looked q || is_in q qs) (sym (looks_here (session_answers s) n old.state at))
 
 -- ---- a run from a step
 

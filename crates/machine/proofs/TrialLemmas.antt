@@ -1,5 +1,5 @@
 -- What a call over a copy writes and reads is what it writes and reads on the plain machine.
-use Rattle.std.proofs.Common.{◌≡◌, ℕ, ◌||◌, ◌==◌, Bool, true, false, cond, List, [], ◌∷◌, ◌++◌, map, Option, Some, None, Ok, is_some, refl, sym, ◌∙◌, ap, subst, inl, inr}
+use Rattle.std.proofs.Common.{◌≡◌, ℕ, ◌||◌, ◌==◌, Bool, true, false, cond, List, [], ◌∷◌, ◌++◌, map, Option, Some, None, Ok, is_some, refl, sym, ◌∙◌, ap, inl, inr, eqb-true}
 use Rattle.std.proofs.Math.Bool.{or_assoc, or-false}
 use Rattle.std.proofs.lemmas.Bool.Decides.{eqb_tells}
 use Rattle.std.specs.Prelude.{slice_index}
@@ -18,14 +18,14 @@ use Rattle.bdos.specs.FileCalls.{SystemEnd}
 use Rattle.bdos.specs.PerformsSystemCall.{MakesSystemCall, state_questions, system_answers, system_path_by}
 use Rattle.bdos.specs.SystemCalls.{call}
 use Rattle.bdos.specs.SystemQuestions.{OfFiles, OfState, SystemAnswers, SystemQuestion, SystemTree}
-use Rattle.machine.specs.Inputs.{Core, Session}
+use Rattle.machine.specs.Inputs.{Core}
 use Rattle.machine.specs.Machine.{after, session_answers}
 use Rattle.machine.specs.PlainFiles.{answers_of}
 use Rattle.machine.specs.PlainState.{PlainState}
-use Rattle.machine.specs.Runs.{IsAtCall, RunView, state_of}
+use Rattle.machine.specs.Runs.{RunView, state_of}
 use Rattle.machine.specs.Session.{IsSession}
 use Rattle.machine.specs.StateView.{PartialState}
-use Rattle.machine.specs.Step.{next, script_limit, step_end_of_call}
+use Rattle.machine.specs.Step.{bdos_entry, is_call, next, script_limit, step_end_of_call}
 use Rattle.machine.proofs.PlainViews.{state_is}
 use Rattle.machine.proofs.TidyFiles.{tidy_after}
 use Rattle.machine.proofs.WholeFiles.{answer_is}
@@ -72,9 +72,9 @@ written_at_end (calls.Stopped cause, change) a = refl
 
 -- ---- the call on the plain machine
 
-at_call : (c : Core) → c.regs.pc ≡ 0xfe06 → next c ≡ map_result step_end_of_call (call script_limit c.regs c.desk.spot)
+at_call : (c : Core) → is_call c ≡ true → next c ≡ map_result step_end_of_call (call script_limit c.regs c.desk.spot)
 unfolding next
-at_call c pc = rw pc refl
+at_call c pc = let e : c.regs.pc ≡ bdos_entry = eqb-true _ _ pc in rw e refl
 
 agree_everywhere : (f g : SystemAnswers) → ((q : SystemQuestion) → f q ≡ g q) → (qs : List SystemQuestion) → AgreeOn qs f g
 agree_everywhere f g h [] = tt
@@ -91,7 +91,7 @@ pub record IsTrial (r : RunView) (st : PartialState) (g : Regs) (m : Memory) (d 
   pub host : t.host ≡ r.session.files
   pub files : t.own ≡ st.own.files
 
-module _ (r : RunView) (st : PartialState) (is : IsSession r.session) (at : after (session_answers r.session) r.step ≡ Some st) (pc : IsAtCall r) where
+module _ (r : RunView) (st : PartialState) (is : IsSession r.session) (at : after (session_answers r.session) r.step ≡ Some st) (pc : is_call (state_of r).core ≡ true) where
   abbrev w : PlainState
   w = state_of r
 
@@ -114,16 +114,16 @@ module _ (r : RunView) (st : PartialState) (is : IsSession r.session) (at : afte
   asked_is : questions_of plain (next w.core) ≡ questions_of parts tree
   asked_is = ap (questions_of plain) (at_call w.core pc) ∙ asked-returning plain step_end_of_call tree ∙ same_asked parts plain tree (agree_everywhere parts plain (λ q. sym (same_answer q)) _)
 
-  pub notes : (s : Session) (d d' : DeskLooks) {g g' : Regs} {m m' : Memory} {l : List ℕ} {t t' : TableView} (served : Served)
-      → r.session ≡ s → IsTrial r st g m d l t → MakesSystemCall (call script_limit) l (scene g m d) t (Ok served) (scene g' m' d') t' → NotesStep s w m'.own m'.looks
-  notes s d d' {g = g} {m = m} {m' = m'} {l = l} {t = t} served same i p =
+  pub notes : (d d' : DeskLooks) {g g' : Regs} {m m' : Memory} {l : List ℕ} {t t' : TableView} (served : Served)
+      → IsTrial r st g m d l t → MakesSystemCall (call script_limit) l (scene g m d) t (Ok served) (scene g' m' d') t' → NotesStep r.session w m'.own m'.looks
+  notes d d' {g = g} {m = m} {m' = m'} {l = l} {t = t} served i p =
       let core : w.core ≡ st.core = ap (λ (x : PlainState). x.core) (state_is r st is at) in
       let path : system_path_by (system_answers (over m.own m.beneath) l t.host t.own) (call script_limit g d.desk.spot) ≡ system_path_by parts tree
       = λ j. system_path_by (system_answers (over (i.own j) (i.beneath j)) (i.script j) (i.host j) (i.files j))
       (call script_limit ((i.regs ∙ ap (λ (c : Core). c.regs) (sym core)) j) ((i.spot ∙ ap (λ (c : Core). c.desk.spot) (sym core)) j)) in
-      subst (λ (x : Session). NotesStep x w m'.own m'.looks) same (record {
+      record {
         written = λ a. ap (λ (own : Own). is_some (own a)) (p.call.executed.own ∙ (λ j. own_after (path j).end.0 (i.own j)))
             ∙ written_at_end (result_of parts tree) a ∙ sym (ap (λ e. is_among a (cells_of_end e)) end_is);
         looked = λ a. ap (is_among a) (p.call.executed.looks ∙ (λ j. look_all (i.own j) (path j).cells (i.looks j)))
             ∙ looked_among (system_path_by parts tree).cells [] a ∙ sym (ap (λ qs. is_among a (addresses (state_questions qs))) asked_is);
-      })
+      }

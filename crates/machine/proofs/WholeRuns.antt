@@ -5,12 +5,12 @@ use Rattle.console_calls.specs.declared.cause.Cause.{Cause}
 use Rattle.console_calls.specs.declared.cause.Cause.TheVariants.{Limit}
 use Rattle.first_looks.specs.FirstLooks.{FirstLooksView}
 use Rattle.machine.specs.declared.noting.Noting.{Noting}
-use Rattle.machine.specs.declared.noting.Noting.TheVariants.{Looks, Nothing}
+use Rattle.machine.specs.declared.noting.Noting.TheVariants.{Failed, Looks, Nothing}
 use Rattle.machine.specs.Inputs.{Session}
-use Rattle.machine.specs.StateView.{PartialState, AllLooks}
+use Rattle.machine.specs.StateView.{PartialState}
 use Rattle.machine.specs.Machine.{session_answers, after, cold_run}
-use Rattle.machine.specs.FirstLooks.{asking_steps}
-use Rattle.machine.specs.Runs.{AreNoted, EndsBy, NotesWholeRun, RunView, asked_by, seen_by}
+use Rattle.machine.specs.FirstLooks.{IsFirstLooks, asking_steps}
+use Rattle.machine.specs.Runs.{EndsBy, NotesWholeRun, RunView, asked_by, seen_by}
 use Rattle.machine.specs.PlainState.{PlainRun, plain_run}
 use Rattle.machine.specs.Run.{RunResult}
 use Rattle.machine.specs.Session.{IsSession}
@@ -39,12 +39,13 @@ module _ (s : Session) (r : RunView) (same : r.session ≡ s) where
   asks (Some cause) ends = sym (stop_asks r.step s.limit ends.0)
 
   -- All of its looks are noted.
-  pub noted_whole : (t : FirstLooksView) (looked : AllLooks) (noting : Noting) (stop : Option Cause) → AreNoted noting (session_answers r.session) r.step t looked
-      → seen_by noting t.seen ≡ Some (asked_by r.step stop) → EndsBy r s.limit stop → NotesWholeRun s t r.step
-  noted_whole t looked Nothing stop noted is ends = absurd (cc)
-  noted_whole t looked Looks stop noted is ends =
+  pub noted_whole : (t : FirstLooksView) (noting : Noting) (stop : Option Cause) → IsFirstLooks (session_answers r.session) t → seen_by noting t.seen ≡ Some (asked_by r.step stop) → EndsBy r s.limit stop
+      → NotesWholeRun s t r.step
+  noted_whole t Nothing stop first is ends = absurd (cc)
+  noted_whole t (Failed error) stop first is ends = absurd (cc)
+  noted_whole t Looks stop first is ends =
       let seen : t.seen ≡ asked_by r.step stop = cc in
-      (rw same at noted.0, seen ∙ asks stop ends)
+      (rw same at first, seen ∙ asks stop ends)
 
 -- Its text is the text of the plain run.
 pub text_of_ended : (r : RunView) (st : PartialState) (stop : Option Cause) → IsSession r.session → after (session_answers r.session) r.step ≡ Some st → EndsBy r r.session.limit stop

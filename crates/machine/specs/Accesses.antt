@@ -9,7 +9,7 @@ use Rattle.console_calls.specs.StateQuestions.{addresses}
 use Rattle.bdos.specs.SystemQuestions.{SystemAnswers, state_questions}
 use Rattle.machine.specs.Inputs.{Session}
 use Rattle.machine.specs.PlainState.{PlainState, plain_answers}
-use Rattle.machine.specs.Step.{StepEnd, Went, Stopped, next}
+use Rattle.machine.specs.Step.{system_area, StepEnd, Went, Stopped, next}
 
 -- The answers to what the step that follows a state asks.
 abbrev pub answers_in : Session → PlainState → SystemAnswers
@@ -30,10 +30,10 @@ read_cells s w = addresses (state_questions (questions_of (answers_in s w) (next
 -- What they come to for a step that executes an instruction: it writes the cells of its writes, and reads what it asks for, the byte at PC
 -- first. So PUSH B with SP at 0001 writes FFFF and 0000, and reads its opcode alone.
 pub record InstructionCells : Type 0 where
-  pub written : (s : Session) (w : PlainState) → w.core.regs.pc < 0xfe00 → written_cells s w ≡ map (λ c. c.0) (writes_of (end_of (instruction w.core.regs) (slice_index w.memory)))
-  pub read : (s : Session) (w : PlainState) → w.core.regs.pc < 0xfe00 → read_cells s w ≡ asked (instruction w.core.regs) (slice_index w.memory)
-  pub push_writes : (s : Session) (w : PlainState) → w.core.regs.pc < 0xfe00 → slice_index w.memory w.core.regs.pc ≡ 0xc5 → w.core.regs.sp ≡ 1 → written_cells s w ≡ 0xffff ∷ 0 ∷ []
-  pub push_reads : (s : Session) (w : PlainState) → w.core.regs.pc < 0xfe00 → slice_index w.memory w.core.regs.pc ≡ 0xc5 → read_cells s w ≡ w.core.regs.pc ∷ []
+  pub written : (s : Session) (w : PlainState) → w.core.regs.pc < system_area → written_cells s w ≡ map (λ c. c.0) (writes_of (end_of (instruction w.core.regs) (slice_index w.memory)))
+  pub read : (s : Session) (w : PlainState) → w.core.regs.pc < system_area → read_cells s w ≡ asked (instruction w.core.regs) (slice_index w.memory)
+  pub push_writes : (s : Session) (w : PlainState) → w.core.regs.pc < system_area → slice_index w.memory w.core.regs.pc ≡ 0xc5 → w.core.regs.sp ≡ 1 → written_cells s w ≡ 0xffff ∷ 0 ∷ []
+  pub push_reads : (s : Session) (w : PlainState) → w.core.regs.pc < system_area → slice_index w.memory w.core.regs.pc ≡ 0xc5 → read_cells s w ≡ w.core.regs.pc ∷ []
 
 -- The step writes exactly the cells that are written here, and reads exactly the ones that were looked at.
 pub record NotesStep (s : Session) (w : PlainState) (own : Own) (looks : Looks) : Type 0 where

@@ -1,19 +1,21 @@
 -- A run in progress, and a whole run. (This project's own.)
-use Rattle.std.specs.Prelude.{◌≡◌, ◌≢◌, ℕ, ◌+◌, ◌<◌, ◌≤◌, Option, Some, None, unwrap_or}
+use Rattle.std.specs.Prelude.{◌≡◌, ℕ, ◌+◌, ◌<◌, ◌≤◌, Option, Some, None, false, unwrap_or}
 use Rattle.interaction_trees.specs.Outcome.{Step, Stop}
 use Rattle.console_calls.specs.declared.cause.Cause.{Cause}
 use Rattle.first_looks.specs.FirstLooks.{FirstLooksView}
 use Rattle.machine.specs.declared.noting.Noting.{Noting}
-use Rattle.machine.specs.declared.noting.Noting.TheVariants.{Looks, Nothing}
+use Rattle.machine.specs.declared.noting.Noting.TheVariants.{Failed, Looks, Nothing}
+use Rattle.machine.specs.declared.noting.RunNotes.{RunNotes}
 use Rattle.machine.specs.declared.session.TheConstants.{STEP_LIMIT}
 use Rattle.machine.specs.Bound.{IsBound}
 use Rattle.machine.specs.Inputs.{Session}
-use Rattle.machine.specs.StateView.{PartialState, AllLooks, StateView}
+use Rattle.machine.specs.StateView.{PartialState, StateView}
 use Rattle.machine.specs.Machine.{Answers, session_answers, after, outcome}
 use Rattle.machine.specs.FirstLooks.{AllNoted, IsFirstLooks, asking_steps}
 use Rattle.machine.specs.PlainLaid.{plain_after}
 use Rattle.machine.specs.PlainState.{PlainState, loaded_machine, plain_outcome}
 use Rattle.machine.specs.Session.{IsSession}
+use Rattle.machine.specs.Step.{is_call}
 
 -- A run of a session: its number of steps, and the step below which its looks are noted, or `None` if they are not.
 pub record RunView : Type 0 where
@@ -25,6 +27,7 @@ pub record RunView : Type 0 where
 abbrev pub seen_by : Noting → ℕ → Option ℕ
 seen_by Nothing seen = None
 seen_by Looks seen = Some seen
+seen_by (Failed error) seen = None
 
 -- The state of the plain machine at the step of a run. A run always has one (`Run::step`, clause `at`), so that the loaded state in the place
 -- of none is never met.
@@ -40,26 +43,36 @@ abbrev pub Leads : RunView → RunView → Option Cause → Type 0
 Leads old new None = (new.step ≡ old.step + 1) × (plain_outcome old.session (state_of old) ≡ Step (state_of new))
 Leads old new (Some cause) = (new.step ≡ old.step) × (plain_outcome old.session (state_of old) ≡ Stop cause)
 
--- A run is at a call.
-abbrev pub IsAtCall : RunView → Type 0
-IsAtCall r = (state_of r).core.regs.pc ≡ 0xfe06
-
 -- No step of a session from `from` on and below `upto` is a call.
 abbrev pub MakesNoCall : Session → ℕ → ℕ → Type 0
-MakesNoCall s from upto = (i : ℕ) (w : PlainState) → from ≤ i → i < upto → plain_after s i ≡ Some w → w.core.regs.pc ≢ 0xfe06
+MakesNoCall s from upto = (i : ℕ) (w : PlainState) → from ≤ i → i < upto → plain_after s i ≡ Some w → is_call w.core ≡ false
 
--- If looks are noted, the table has those of the steps below `seen`, and if that is the step of the run, those of its state.
-abbrev pub AreNoted : Noting → Answers → ℕ → FirstLooksView → AllLooks → Type 0
-AreNoted Nothing f step t looked = Unit {0}
-AreNoted Looks f step t looked = IsFirstLooks f t × (t.seen ≡ step → AllNoted t looked)
+-- A session is in this state after this step. The notes are first looks of the session; if the run notes its looks, all that was looked at
+-- is noted, and so are all steps below this one.
+pub record IsAt (s : Session) (step : ℕ) (state : StateView) (notes : RunNotes) : Type 0 where
+  pub at : after (session_answers s) step ≡ Some state.state
+  pub bound : IsBound s state
+  pub first : IsFirstLooks (session_answers s) notes.looks
+  pub seen_in : notes.looks.seen ≤ STEP_LIMIT
+  pub noted : notes.noting ≡ Looks → (step ≤ notes.looks.seen) × AllNoted notes.looks state.looked
 
--- The parts of a run belong together: the state is that after `step` steps, and what is noted are its looks.
-pub record IsRun (s : Session) (st : StateView) (t : FirstLooksView) (step : ℕ) (noting : Noting) : Type 0 where
+-- The parts of a run belong together.
+pub record IsRun (s : Session) (step : ℕ) (state : StateView) (notes : RunNotes) : Type 0 where
   pub session : IsSession s
-  pub at : after (session_answers s) step ≡ Some st.state
   pub within : step ≤ STEP_LIMIT
-  pub bound : IsBound s st
-  pub noted : AreNoted noting (session_answers s) step t st.looked
+  pub run : IsAt s step state notes
+
+-- A run notes its looks, or did until an allocation failed.
+abbrev pub IsNoting : Noting → Type 0
+IsNoting Nothing = ⊥
+IsNoting Looks = Unit {0}
+IsNoting (Failed error) = Unit {0}
+
+-- No note of a step that was seen is lost, and only a failed allocation ends the noting.
+pub record KeepsNotes (old new : RunNotes) : Type 0 where
+  pub grows : old.looks.seen ≤ new.looks.seen
+  pub on : IsNoting old.noting → IsNoting new.noting
+  pub was : new.noting ≡ Looks → old.noting ≡ Looks
 
 -- A run went on, at most to this step.
 pub record GoesOn (old new : RunView) (end : ℕ) : Type 0 where

@@ -22,7 +22,11 @@ pub record IsSession (s : Session) : Type 0 where
   pub script : length s.script ≤ SCRIPT_LIMIT
   pub limit : s.limit ≤ STEP_LIMIT
 
--- The session with these parts, or the number of the refusal.
+-- The session with these parts.
+abbrev pub session_of : List ℕ → List ℕ → Host → List ℕ → ℕ → Session
+session_of program tail files script limit = record { program = program; tail = tail; files = files; script = script; limit = limit }
+
+-- The same, or the number of the refusal.
 abbrev pub session_or_refusal : List ℕ → List ℕ → Host → List ℕ → ℕ → Result Session ℕ
 session_or_refusal program tail files script limit =
     if nat_lt PROGRAM_LIMIT (length program) then Err 1
@@ -30,7 +34,7 @@ session_or_refusal program tail files script limit =
     else if not (list_all is_tail_byte tail) then Err 3
     else if nat_lt SCRIPT_LIMIT (length script) then Err 4
     else if nat_lt STEP_LIMIT limit then Err 5
-    else Ok (record { program = program; tail = tail; files = files; script = script; limit = limit })
+    else Ok (session_of program tail files script limit)
 
 -- The byte of each cell of the loaded image: page zero with the command tail, the program, and 0 elsewhere.
 abbrev pub image_of : Session → ℕ → ℕ

@@ -1,6 +1,6 @@
 -- What a step asks, and what it makes of the answers. ([8080 manual 1975, chapter 4]; [Interface Guide 1979, page zero]; why a
 -- run stops, and where the system area is: this project's profile.)
-use Rattle.std.specs.Prelude.{◌≡◌, ℕ, ◌==◌, nat_le, if◌then◌else◌, refl, false, List, [], ◌++◌}
+use Rattle.std.specs.Prelude.{◌≡◌, ℕ, ◌==◌, Bool, nat_le, nat_lt, if◌then◌else◌, refl, false, List, [], ◌++◌}
 use Rattle.interaction_trees.specs.Tree.{Return, map_result}
 use Rattle.i8080.specs.declared.registers.Regs.{Regs}
 use Rattle.i8080.specs.End as end
@@ -59,12 +59,26 @@ pub script_limit-is : script_limit ≡ SCRIPT_LIMIT
 unfolding script_limit
 script_limit-is = refl
 
+-- The address of the BDOS, and the first one of the system's area. (This project's profile.)
+abbrev pub bdos_entry : ℕ
+bdos_entry = 0xfe06
+
+abbrev pub system_area : ℕ
+system_area = 0xfe00
+
+-- A call is at the address of the BDOS, and an instruction below the system's area.
+abbrev pub is_call : Core → Bool
+is_call c = c.regs.pc == bdos_entry
+
+abbrev pub is_instruction : Core → Bool
+is_instruction c = nat_lt c.regs.pc system_area
+
 -- What a step asks of the state, and what it makes of the answers: the first line that applies decides. (That a jump to 0000H is
 -- the warm start and a call to 0005H the BDOS: [Interface Guide 1979, page zero]. From there page zero leads to 0FF03H and to
--- 0FE06H.)
+-- the address of the BDOS.)
 unfoldable pub next : Core → SystemTree StepEnd
 next c =
     if c.regs.pc == 0xff03 then Return (Stopped WarmBoot)
-    else if c.regs.pc == 0xfe06 then map_result step_end_of_call (call script_limit c.regs c.desk.spot)
-    else if nat_le 0xfe00 c.regs.pc then Return (Stopped (SystemArea c.regs.pc))
+    else if is_call c then map_result step_end_of_call (call script_limit c.regs c.desk.spot)
+    else if nat_le system_area c.regs.pc then Return (Stopped (SystemArea c.regs.pc))
     else bind_reading (instruction c.regs) (λ e. Return (step_end_of c.desk.spot e))

@@ -1,40 +1,26 @@
--- Steps one after another: those of which only the last looks at anything new, and those whose looks are forgotten. (This project's own.)
-use Rattle.std.specs.Prelude.{◌≡◌, ◌≢◌, ℕ, ◌+◌, ◌<◌, ◌≤◌, ◌-◌, true, [], Option, Some, IfOk, IfNone, IfSome, OnErr}
+-- Steps one after another. (This project's own.)
+use Rattle.std.specs.Prelude.{◌≡◌, ℕ, ◌+◌, ◌<◌, ◌≤◌, true, false, Option, Some, None, Ok, Err, IfOk, IfNone, IfSome, OnErr}
 use Rattle.std.specs.declared.result.Result.{Result}
 use Rattle.std.specs.declared.alloc.AllocError.{AllocError}
 use Rattle.interaction_trees.specs.Outcome.{Stop}
 use Rattle.console_calls.specs.declared.cause.Cause.{Cause}
 use Rattle.machine.specs.Inputs.{Session}
+use Rattle.machine.specs.declared.stretch.Until.{Until}
+use Rattle.machine.specs.declared.stretch.Until.TheVariants.{End, Call}
 use Rattle.machine.specs.StateView.{AllLooks, PartialState, StateView}
+use Rattle.machine.specs.Step.{is_call}
 use Rattle.machine.specs.Bound.{image_beneath, IsBound}
 use Rattle.first_looks.specs.declared.question.Question.{Question}
 use Rattle.first_looks.specs.Questions.{is_in}
-use Rattle.machine.specs.Machine.{Answers, session_answers, after, outcome, looks, is_looked_at, AddsLooks, KeepsLooks, AddsNoOtherLooks}
+use Rattle.machine.specs.Machine.{Answers, session_answers, after, outcome, looks, is_looked_at}
 
 -- Each step from `from` on and below `upto` looks only at what these looks contain.
 abbrev pub LooksAtNothingNew : Answers → AllLooks → ℕ → ℕ → Type 0
 LooksAtNothingNew f looked from upto = (i : ℕ) → from ≤ i → i < upto → (q : Question) → is_in q (looks f i) ≡ true → is_looked_at looked q ≡ true
 
--- Steps from `from` on led to the state after n steps. All but the last look at nothing new; if a stop or an error follows, all look
--- at nothing new. The looks are the earlier ones with those of the last step, or of the step that stops; if there was neither,
--- they are the earlier ones. After an error they contain the earlier ones and at most those of the step that failed.
-pub record RunsStretch (s : Session) (from end : ℕ) (looked : AllLooks) (n : ℕ) (result : Result (Option Cause) AllocError) (new : StateView) : Type 0 where
-  pub within : (from ≤ n) × (n ≤ end)
-  pub at : after (session_answers s) n ≡ Some new.state
-  pub stopped : IfOk result (λ stop. IfSome stop (λ cause. (n < end) × (outcome (session_answers s) new.state ≡ Stop cause)))
-  pub failed : OnErr result (n < end)
-  pub before_last : LooksAtNothingNew (session_answers s) looked from (n - 1)
-  pub before_stop : IfOk result (λ stop. IfSome stop (λ _. LooksAtNothingNew (session_answers s) looked from n))
-  pub before_failure : OnErr result (LooksAtNothingNew (session_answers s) looked from n)
-  pub last : IfOk result (λ stop. IfNone stop (from < n → AddsLooks looked (looks (session_answers s) (n - 1)) new.looked))
-  pub none : IfOk result (λ stop. IfNone stop (n ≡ from → AddsLooks looked [] new.looked))
-  pub at_stop : IfOk result (λ stop. IfSome stop (λ _. AddsLooks looked (looks (session_answers s) n) new.looked))
-  pub extends : KeepsLooks looked new.looked
-  pub bounded : OnErr result (AddsNoOtherLooks looked (looks (session_answers s) n) new.looked)
-
 -- No step from `from` on and below `upto` is a call.
 abbrev pub CallsNothing : Answers → ℕ → ℕ → Type 0
-CallsNothing f from upto = (i : ℕ) (st : PartialState) → from ≤ i → i < upto → after f i ≡ Some st → st.core.regs.pc ≢ 0xfe06
+CallsNothing f from upto = (i : ℕ) (st : PartialState) → from ≤ i → i < upto → after f i ≡ Some st → is_call st.core ≡ false
 
 -- A session has this state after `from` steps, and the known cells belong to its image.
 pub record StartsIn (s : Session) (from : ℕ) (start : StateView) : Type 0 where
@@ -54,20 +40,24 @@ pub record RunsQuietly (n : ℕ) (old new : StateView) : Type 0 where
   pub looked : new.looked ≡ old.looked
   pub beneath : image_beneath new ≡ image_beneath old
 
--- Steps from `from` on led to the state after n steps: to step `end`, to a stop before it, or to an error before it.
-pub record RunsTo (s : Session) (from end n : ℕ) (result : Result (Option Cause) AllocError) (new : PartialState) : Type 0 where
+-- The step after a step, or the same if that stopped or failed.
+abbrev pub step_after : ℕ → Result (Option Cause) AllocError → ℕ
+step_after n (Ok None) = n + 1
+step_after n (Ok (Some cause)) = n
+step_after n (Err error) = n
+
+-- A run that is to end there came to its last step, or to a call before it.
+abbrev pub Ends : Until → ℕ → ℕ → PartialState → Type 0
+Ends End n end st = n ≡ end
+Ends Call n end st = n < end → is_call st.core ≡ true
+
+-- Steps from `from` on led to the state after n steps: to where the run is to end, to a stop before it, or to an error before it. A run to
+-- a call makes no call and does not stop at one.
+pub record RunsTo (until : Until) (s : Session) (from end n : ℕ) (result : Result (Option Cause) AllocError) (new : PartialState) : Type 0 where
   pub within : (from ≤ n) × (n ≤ end)
   pub at : after (session_answers s) n ≡ Some new
-  pub ended : IfOk result (λ stop. IfNone stop (n ≡ end))
+  pub ended : IfOk result (λ stop. IfNone stop (Ends until n end new))
   pub stopped : IfOk result (λ stop. IfSome stop (λ cause. (n < end) × (outcome (session_answers s) new ≡ Stop cause)))
   pub failed : OnErr result (n < end)
-
--- Steps from `from` on, none of them a call, led to the state after n steps: to step `end`, to a call before it, to a stop before it that
--- is no call, or to an error before it.
-pub record RunsToCall (s : Session) (from end n : ℕ) (result : Result (Option Cause) AllocError) (new : PartialState) : Type 0 where
-  pub within : (from ≤ n) × (n ≤ end)
-  pub at : after (session_answers s) n ≡ Some new
-  pub calls : CallsNothing (session_answers s) from n
-  pub arrived : IfOk result (λ stop. IfNone stop (n < end → new.core.regs.pc ≡ 0xfe06))
-  pub stopped : IfOk result (λ stop. IfSome stop (λ cause. (n < end) × (new.core.regs.pc ≢ 0xfe06) × (outcome (session_answers s) new ≡ Stop cause)))
-  pub failed : OnErr result (n < end)
+  pub calls : until ≡ Call → CallsNothing (session_answers s) from n
+  pub apart : until ≡ Call → IfOk result (λ stop. IfSome stop (λ _. is_call new.core ≡ false))

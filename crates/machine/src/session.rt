@@ -43,27 +43,16 @@ impl Model for Session {
     ghost use Rattle.command_tail.specs.PageZero.{page_zero};
     ghost use Rattle.machine.specs.Inputs.{Session as SessionView};
     ghost use Rattle.machine.specs.StateView.{files_code};
-    ghost use Rattle.machine.specs.Session.{IsSession};
+    ghost use Rattle.machine.specs.Session.{IsSession, session_of};
 
     ghost Value = { SessionView };
 
     ghost coded = { Prim.hlevel (codes, files_code) };
 
-    ghost view = { λ s. record {
-      program = s.program.items;
-      tail = s.tail.items;
-      files = s.files;
-      script = s.script.items;
-      limit = s.limit;
-    } };
+    ghost view = { λ s. session_of s.program.items s.tail.items s.files s.script.items s.limit };
 
-    ghost invariant = { λ s. (s.first_page ≡ page_zero s.tail.items) × IsSession (record {
-      program = s.program.items;
-      tail = s.tail.items;
-      files = s.files;
-      script = s.script.items;
-      limit = s.limit;
-    }) };
+    ghost invariant = { λ s. (s.first_page ≡ page_zero s.tail.items)
+        × IsSession (session_of s.program.items s.tail.items s.files s.script.items s.limit) };
 }
 
 /// The reason why a session is refused.
@@ -316,18 +305,11 @@ fn overwrite(list: &mut Vec<u8>, at: usize, bytes: &[u8])
     place.copy_from_slice(bytes);
 }
 
-// Returns whether a command tail may contain a byte.
-fn is_tail_byte(byte: u8) -> bool
-    ensures { result ≡ is_tail_byte byte }
-{
-    byte >= 0x20 && byte <= 0x7e
-}
-
 // Returns whether a command tail may contain all bytes of a text.
 fn is_tail(text: &[u8]) -> bool
     ensures { result ≡ list_all is_tail_byte text.now }
 {
-    text.iter().all(|byte| is_tail_byte(*byte))
+    text.iter().all(|byte| *byte >= 0x20 && *byte <= 0x7e)
 }
 
 /// The limits of a session have these values.

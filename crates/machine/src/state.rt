@@ -1,17 +1,15 @@
-ghost use Rattle.std.specs.Prelude.{◌≡◌, ◌<◌, ◌≤◌, ℕ, true, false, IfOk, OnOk, OnErr, length, slice_index};
-ghost use Rattle.hostfiles.specs.FileLooks.{is_looked};
-ghost use Rattle.hostfiles.specs.declared.looks.Ask.{Ask};
+ghost use Rattle.std.specs.Prelude.{◌≡◌, ◌<◌, ◌≤◌, false, IfOk, OnOk, OnErr, length};
 ghost use Rattle.first_looks.specs.FirstLooks.{NotesLooks, SameBelow};
-ghost use Rattle.machine.specs.Machine.{cell_at, start, HasNoHostQuestions, HasNoLooks, HasNoQuestions, is_looked_at, looks_from};
+ghost use Rattle.machine.specs.Machine.{cell_at, start, HasNoLooks, HasNoQuestions, is_looked_at, looks_from};
 ghost use Rattle.machine.specs.TakesQuestion.{TakesQuestion};
 ghost use Rattle.machine.specs.Bound.{IsBound};
 ghost use Rattle.machine.specs.Session.{IsSession};
 
 use crate::session::{STEP_LIMIT, Session};
-use console_calls::{Desk, ScriptLooks};
+use console_calls::Desk;
 use first_looks::{FirstLooks, Question};
 use hostfiles::Changes;
-use i8080::{Flags, Regs};
+use i8080::Regs;
 use pagemem::{BlankMarks, Cells, Overlay};
 use std::alloc::{AllocError, Global};
 use std::marker::Model;
@@ -78,22 +76,9 @@ impl State {
         let cells = Cells::new(alloc)?;
         Ok(State {
             regs: Regs {
-                a: 0,
-                b: 0,
-                c: 0,
-                d: 0,
-                e: 0,
-                h: 0,
-                l: 0,
                 sp: 0xfdfe,
                 pc: 0x0100,
-                flags: Flags {
-                    s: false,
-                    z: false,
-                    ac: false,
-                    p: false,
-                    cy: false,
-                },
+                ..Regs::default()
             },
             overlay: Overlay::from_parts(marks, cells, session.beneath()),
             desk: Desk::new(alloc),
@@ -116,36 +101,6 @@ impl State {
         self.overlay.look_count()
     }
 
-    /// Returns the cell that was looked at after `index` others.
-    pub fn nth_look(&self, index: usize) -> u16
-        requires { index < length self.now.looked.cells }
-        ensures { result ≡ slice_index self.now.looked.cells index }
-    {
-        self.overlay.nth_look(index)
-    }
-
-    /// Returns the script offsets that were looked at.
-    #[inline(always)]
-    pub(crate) fn script_looks(&self) -> ScriptLooks
-        ensures { result ≡ self.now.looked.offsets }
-    {
-        self.desk.script_looks()
-    }
-
-    /// Returns whether `cells` cells and these script offsets were looked at, and no question was asked of the host files.
-    #[inline(always)]
-    pub(crate) fn looks_at_no_more(&self, cells: usize, offsets: ScriptLooks) -> bool
-        ensures cells { result ≡ true → length self.now.looked.cells ≡ cells }
-        ensures offsets { result ≡ true → self.now.looked.offsets ≡ offsets }
-        ensures files { result ≡ true → (ask : Ask) → is_looked self.now.looked.files ask ≡ false }
-    {
-        // The start of the offsets is compared last and by itself: one load of both numbers would wait until both are stored.
-        self.look_count() == cells
-            && self.script_looks().has_end_of(offsets)
-            && self.changes.looks.is_empty()
-            && self.script_looks().has_start_of(offsets)
-    }
-
     /// Removes and returns one of the new looks: the cell that was looked at after `next` others, with `next` then one more;
     /// or else a script offset or a question to the host files; `None` if there are none. The state and its cells stay.
     pub fn take_question(&mut self, next: &mut usize) -> Option<Question>
@@ -155,7 +110,7 @@ impl State {
         ensures beneath { self.new.beneath ≡ self.old.beneath }
     {
         if *next < self.look_count() {
-            let cell = self.nth_look(*next);
+            let cell = self.overlay.nth_look(*next);
             *next += 1;
             return Some(Question::Cell(cell));
         }
@@ -210,19 +165,7 @@ impl State {
         ensures none { HasNoQuestions self.new.looked }
         ensures beneath { self.new.beneath ≡ self.old.beneath }
     {
-        self.changes.looks.clear();
         self.desk.forget_looks();
-    }
-
-    /// Forgets the questions to the host files. Everything else is unchanged. Allocates nothing.
-    #[inline(always)]
-    pub(crate) fn forget_host_questions(&mut self)
-        ensures state { self.new.state ≡ self.old.state }
-        ensures cells { self.new.looked.cells ≡ self.old.looked.cells }
-        ensures offsets { self.new.looked.offsets ≡ self.old.looked.offsets }
-        ensures none { HasNoHostQuestions self.new.looked }
-        ensures beneath { self.new.beneath ≡ self.old.beneath }
-    {
         // This is the usual case, and it writes nothing.
         if self.changes.looks.is_empty() {
             return;

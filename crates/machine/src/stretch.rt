@@ -1,24 +1,29 @@
 // Steps one after another.
 
-ghost use Rattle.std.specs.Prelude.{◌≡◌, ◌+◌, ◌-◌, ◌^◌, ◌<◌, ◌≤◌, true, Some, IfOk, IfNone, IfSome, OnErr};
+ghost use Rattle.std.specs.Prelude.{◌≡◌, ◌==◌, ◌+◌, ◌-◌, ◌^◌, ◌<◌, ◌≤◌, true, false, IfOk, IfNone, IfSome, OnErr, OnOk, max};
+ghost use Rattle.interaction_trees.specs.Outcome.{Stop};
 ghost use Rattle.i8080.specs.Instruction.{instruction};
 ghost use Rattle.i8080.specs.Performs.{Performs};
 ghost use Rattle.pagemem.specs.Overlay.{beneath_of, is_ready_at};
 ghost use Rattle.machine.specs.Bound.{IsBound};
-ghost use Rattle.machine.specs.Machine.{session_answers, after, HasNoHostQuestions, IsReached};
+ghost use Rattle.machine.specs.Machine.{session_answers, outcome, HasNoQuestions, IsReached};
+ghost use Rattle.machine.specs.Runs.{IsAt, KeepsNotes, asked_by};
 ghost use Rattle.machine.specs.Session.{image_of};
+ghost use Rattle.machine.specs.Step.{bdos_entry};
 ghost use Rattle.machine.specs.Stops.{stop_of_instruction};
 ghost use Rattle.machine.specs.TakesStep.{memory_over_image, TakesStep};
-ghost use Rattle.machine.specs.Stretch.{RunsTo, RunsQuietly, RunsStretch, RunsToCall};
+ghost use Rattle.machine.specs.Stretch.{RunsTo, RunsQuietly, step_after};
+ghost use Rattle.machine.specs.declared.noting.Noting.TheVariants.{Looks};
 
 use crate::meter::Meter;
-use crate::session::Session;
+use crate::noting::{Noting, RunNotes, note_step, pass_to};
+use crate::session::{STEP_LIMIT, Session};
 use crate::state::State;
-use crate::system_area::{BDOS_ENTRY, SYSTEM_AREA, enter_system};
+use crate::system_area::{BDOS_ENTRY, enter_system};
 use console_calls::Cause;
 use i8080::{Did, Regs, execute};
 use known_run::run_known;
-use pagemem::{LearningView, Overlay, View};
+use pagemem::{LearningView, Overlay, SYSTEM_AREA, View};
 use std::alloc::AllocError;
 
 // Executes at most `steps` instructions below the system area that need only known cells. Returns how many they were. It is never
@@ -79,7 +84,7 @@ fn stop_of_instruction(did: Did) -> Option<Cause>
 
 // Executes one step, or returns the cause of a stop. If `learns`, each cell that it reads becomes known.
 #[inline(always)]
-fn take_step(
+fn execute_step(
     state: &mut State,
     session: &Session,
     learns: bool,
@@ -100,143 +105,124 @@ fn take_step(
     Ok(stop_of_instruction(did))
 }
 
-/// Executes steps from step `from` on: up to step `end`, to a step that looks at something new, or to a stop. Returns the
-/// step that was reached, also at `Err`, and the cause of a stop. Without a stop, at least one step is executed.
-///
-/// A stop leaves the state that was reached, with the earlier looks and the looks of the step that stops.
-///
-/// # Errors
-///
-/// `Err` means out of memory. It leaves the state that was reached, with the earlier looks and some of the looks of the
-/// step that failed.
-#[inline(never)]
-pub(crate) fn run_to_look(
+/// Where a run ends, unless it stops.
+#[derive(Clone, Copy)]
+pub(crate) enum Until {
+    /// At its last step.
+    End,
+    /// At its last step, or before a call.
+    Call,
+}
+
+// Returns whether a run ends before its last step, with PC at this address.
+#[inline(always)]
+fn ends_before(until: Until, pc: u16) -> bool
+    ensures here { result ≡ true → (until ≡ Until.Call) × ((pc == bdos_entry) ≡ true) }
+    ensures other { result ≡ false → until ≡ Until.Call → (pc == bdos_entry) ≡ false }
+{
+    match until {
+        Until::End => false,
+        Until::Call => pc == BDOS_ENTRY,
+    }
+}
+
+// Executes step `n` outside the loop over known cells, or returns the cause of a stop, and notes the looks as the notes say. If it
+// fails, the run notes nothing any more.
+#[inline(always)]
+fn slow_step(
     state: &mut State,
+    notes: &mut RunNotes,
     session: &Session,
-    from: u64,
-    end: u64,
-) -> (u64, Result<Option<Cause>, AllocError>)
-    requires order { from < end }
-    requires at { after (session_answers session.now) from ≡ Some state.old.state }
-    requires bound { IsBound session.now state.old }
-    ensures runs { RunsStretch session.now from end state.old.looked result.0 result.1 state.new }
-    ensures progress { IfOk result.1 (λ stop. IfNone stop (from < result.0)) }
-    ensures bound { IsBound session.now state.new }
+    n: u64,
+) -> Result<Option<Cause>, AllocError>
+    requires within { n < STEP_LIMIT }
+    requires run { IsAt session.now n state.old notes.old }
+    ensures run { IsAt session.now (step_after n result) state.new notes.new }
+    ensures stops { IfOk result (λ stop. IfSome stop (λ cause.
+        outcome (session_answers session.now) state.new.state ≡ Stop cause)) }
+    ensures stays { IfOk result (λ stop. IfSome stop (λ _. state.new.state ≡ state.old.state)) }
+    ensures notes { KeepsNotes notes.old notes.new }
+    ensures seen { OnOk result (notes.new.noting ≡ Looks
+        → notes.new.looks.seen ≡ max notes.old.looks.seen (n + 1)) }
+    ensures drained { OnOk result (HasNoQuestions state.new.looked) }
 {
     let cells = state.look_count();
-    let offsets = state.script_looks();
-    let mut n = from;
-    while n < end {
-        n += run_quietly(state, end - n);
-        if n == end {
-            return (n, Ok(None));
+    match execute_step(state, session, true) {
+        Ok(stop) => {
+            note_step(notes, n, state, cells);
+            Ok(stop)
         }
-        match take_step(state, session, true) {
-            Ok(None) => {}
-            Ok(Some(cause)) => return (n, Ok(Some(cause))),
-            Err(error) => return (n, Err(error)),
-        }
-        n += 1;
-        if !state.looks_at_no_more(cells, offsets) {
-            return (n, Ok(None));
+        Err(failure) => {
+            notes.noting = Noting::Failed(failure);
+            Err(failure)
         }
     }
-    (n, Ok(None))
 }
 
-/// Does the same as `run_to_look`. The meter counts the steps, also at `Err`.
-pub fn run_from(
+/// Executes steps from `step` on: up to step `end`, to a stop, whose cause it returns, or to where else the run is to end. Notes the
+/// looks of the steps and of a stop as the notes say. `step` is then the step that was reached, also at `Err`.
+///
+/// # Errors
+///
+/// `Err` means out of memory. It leaves the state that was reached, and the run notes nothing any more.
+#[inline(never)]
+pub(crate) fn run_until(
     state: &mut State,
+    notes: &mut RunNotes,
+    session: &Session,
+    step: &mut u64,
+    end: u64,
+    until: Until,
+) -> Result<Option<Cause>, AllocError>
+    requires order { (step.old ≤ end) × (end ≤ STEP_LIMIT) }
+    requires run { IsAt session.now step.old state.old notes.old }
+    ensures runs { RunsTo until session.now step.old end step.new result state.new.state }
+    ensures run { IsAt session.now step.new state.new notes.new }
+    ensures notes { KeepsNotes notes.old notes.new }
+    ensures seen { IfOk result (λ stop. notes.new.noting ≡ Looks
+        → notes.new.looks.seen ≡ max notes.old.looks.seen (asked_by step.new stop)) }
+{
+    while *step < end {
+        *step += run_quietly(state, end - *step);
+        pass_to(notes, *step);
+        if *step == end || ends_before(until, state.regs.pc) {
+            return Ok(None);
+        }
+        match slow_step(state, notes, session, *step) {
+            Ok(None) => *step += 1,
+            Ok(Some(cause)) => return Ok(Some(cause)),
+            Err(failure) => return Err(failure),
+        }
+    }
+    Ok(None)
+}
+
+/// Executes steps from `step` on up to step `end`, or to a stop, whose cause it returns, and notes the looks as far as memory allows.
+/// The meter counts the steps, and `step` is then the step that was reached, also at `Err`.
+///
+/// # Errors
+///
+/// `Err` means out of memory. It leaves the state that was reached.
+pub fn run_and_note(
+    state: &mut State,
+    notes: &mut RunNotes,
     session: &Session,
     meter: &mut Meter,
-    from: u64,
+    step: &mut u64,
     end: u64,
-) -> (u64, Result<Option<Cause>, AllocError>)
-    requires order { from < end }
-    requires at { after (session_answers session.now) from ≡ Some state.old.state }
-    requires room { meter.old + (end - from) < 2 ^ 64 }
-    requires bound { IsBound session.now state.old }
-    ensures runs { RunsStretch session.now from end state.old.looked result.0 result.1 state.new }
-    ensures ticks { meter.new + from ≡ meter.old + result.0 }
-    ensures progress { IfOk result.1 (λ stop. IfNone stop (from < result.0)) }
-    ensures bound { IsBound session.now state.new }
+) -> Result<Option<Cause>, AllocError>
+    requires order { (step.old ≤ end) × (end ≤ STEP_LIMIT) }
+    requires run { IsAt session.now step.old state.old notes.old }
+    requires room { meter.old + (end - step.old) < 2 ^ 64 }
+    ensures runs { RunsTo Until.End session.now step.old end step.new result state.new.state }
+    ensures run { IsAt session.now step.new state.new notes.new }
+    ensures notes { KeepsNotes notes.old notes.new }
+    ensures ticks { meter.new + step.old ≡ meter.old + step.new }
 {
-    let (reached, ended) = run_to_look(state, session, from, end);
-    meter.tick_by(reached - from);
-    (reached, ended)
-}
-
-/// Executes steps from step `from` on up to step `end`, or to a stop, whose cause it returns. It forgets the
-/// questions to the host files that each step asked, so it need not end there. Returns the step that was reached, also at `Err`.
-///
-/// # Errors
-///
-/// `Err` means out of memory. It leaves the state that was reached.
-#[inline(never)]
-pub(crate) fn run_forgetting(
-    state: &mut State,
-    session: &Session,
-    from: u64,
-    end: u64,
-) -> (u64, Result<Option<Cause>, AllocError>)
-    requires order { from ≤ end }
-    requires at { after (session_answers session.now) from ≡ Some state.old.state }
-    requires bound { IsBound session.now state.old }
-    ensures runs { RunsTo session.now from end result.0 result.1 state.new.state }
-    ensures forgets { HasNoHostQuestions state.old.looked
-        → IfOk result.1 (λ stop. IfNone stop (HasNoHostQuestions state.new.looked)) }
-    ensures bound { IsBound session.now state.new }
-{
-    let mut n = from;
-    while n < end {
-        n += run_quietly(state, end - n);
-        if n == end {
-            return (n, Ok(None));
-        }
-        match take_step(state, session, true) {
-            Ok(None) => {}
-            Ok(Some(cause)) => return (n, Ok(Some(cause))),
-            Err(error) => return (n, Err(error)),
-        }
-        n += 1;
-        state.forget_host_questions();
-    }
-    (n, Ok(None))
-}
-
-/// Executes steps from step `from` on up to step `end`, to a call, which is not executed, or to a stop, whose cause it returns. Returns the
-/// step that was reached, also at `Err`.
-///
-/// # Errors
-///
-/// `Err` means out of memory. It leaves the state that was reached.
-#[inline(never)]
-pub(crate) fn run_to_call(
-    state: &mut State,
-    session: &Session,
-    from: u64,
-    end: u64,
-) -> (u64, Result<Option<Cause>, AllocError>)
-    requires order { from ≤ end }
-    requires at { after (session_answers session.now) from ≡ Some state.old.state }
-    requires bound { IsBound session.now state.old }
-    ensures runs { RunsToCall session.now from end result.0 result.1 state.new.state }
-    ensures bound { IsBound session.now state.new }
-{
-    let mut n = from;
-    while n < end {
-        n += run_quietly(state, end - n);
-        if n == end || state.regs.pc == BDOS_ENTRY {
-            return (n, Ok(None));
-        }
-        match take_step(state, session, true) {
-            Ok(None) => {}
-            Ok(Some(cause)) => return (n, Ok(Some(cause))),
-            Err(error) => return (n, Err(error)),
-        }
-        n += 1;
-    }
-    (n, Ok(None))
+    let from = *step;
+    let ended = run_until(state, notes, session, step, end, Until::End);
+    meter.tick_by(*step - from);
+    ended
 }
 
 /// Executes one step, or returns the cause of a stop. A stop leaves the state unchanged, and adds the looks of
@@ -257,7 +243,7 @@ pub fn step(
     ensures stopped { IfOk result (λ r. IfSome r (λ _. meter.new ≡ meter.old)) }
     ensures failed { OnErr result (meter.new ≡ meter.old) }
 {
-    let stop = take_step(state, session, false)?;
+    let stop = execute_step(state, session, false)?;
     if stop.is_none() {
         meter.tick();
     }

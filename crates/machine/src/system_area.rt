@@ -9,7 +9,7 @@ ghost use Rattle.bdos.specs.SystemCalls as system_calls;
 ghost use Rattle.pagemem.specs.Overlay.{beneath_of};
 ghost use Rattle.machine.specs.Bound.{IsBound};
 ghost use Rattle.machine.specs.Session.{image_of};
-ghost use Rattle.machine.specs.Step.{script_limit};
+ghost use Rattle.machine.specs.Step.{script_limit, system_area};
 ghost use Rattle.machine.specs.TakesStep.{memory_over_image, drives_in, TakesStep};
 ghost use Rattle.machine.specs.Stops.{stop_of_call};
 
@@ -28,9 +28,6 @@ const WARM_START: u16 = 0xff03;
 
 /// The address of the BDOS, to which the jump at 0005H leads.
 pub(crate) const BDOS_ENTRY: u16 = 0xfe06;
-
-/// The first cell of the system area.
-pub(crate) const SYSTEM_AREA: u16 = 0xfe00;
 
 // Executes the call whose number is in C, over a session's image and its files.
 fn serve(
@@ -91,7 +88,7 @@ pub(crate) fn enter_system(
     session: &Session,
     learns: bool,
 ) -> Result<Option<Cause>, AllocError>
-    requires area { 0xfe00 ≤ state.old.state.core.regs.pc }
+    requires area { system_area ≤ state.old.state.core.regs.pc }
     requires sound { AreSoundOwnFiles session.now.files state.old.state.own.files }
     requires bound { learns ≡ true → IsBound session.now state.old }
     ensures step { TakesStep session.now state.old result state.new }

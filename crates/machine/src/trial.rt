@@ -1,31 +1,28 @@
 // The cells that the next call of a run writes and reads, by a trial that leaves the run unchanged.
 
-ghost use Rattle.std.specs.Prelude.{◌≡◌, IfOk, None, slice_index};
+ghost use Rattle.std.specs.Prelude.{◌≡◌, [], true, IfOk, None, slice_index};
 ghost use Rattle.pagemem.specs.Overlay.{is_ready_at, looks_of, own_of};
 ghost use Rattle.machine.specs.Accesses.{NotesStep};
-ghost use Rattle.machine.specs.Runs.{IsAtCall, state_of};
+ghost use Rattle.machine.specs.Runs.{state_of};
+ghost use Rattle.machine.specs.Step.{is_call};
 
 use crate::run::Run;
-use crate::session::Session;
 use bdos::call;
 use cpmfiles::Table;
 use i8080::Bus;
 use pagemem::{Beneath, BlankMarks, Cells, Overlay};
 use std::alloc::{AllocError, Global};
 
-/// The memory in which calls are tried one after another, so that it is allocated once.
+/// The memory of earlier trials, kept for the next one so that it is allocated once.
 #[derive(Drop)]
-pub struct Trials {
+pub struct SpareMemory {
     marks: Option<BlankMarks>,
 }
 
-impl Trials {
-    ghost use Rattle.std.specs.Prelude.{◌≡◌, [], IfOk, None};
-    ghost use Rattle.pagemem.specs.Overlay.{looks_of, own_of};
-
+impl SpareMemory {
     /// Begins without memory.
-    pub fn new() -> Trials {
-        Trials { marks: None }
+    pub fn new() -> SpareMemory {
+        SpareMemory { marks: None }
     }
 
     // Returns a memory with nothing written and no looks.
@@ -41,42 +38,41 @@ impl Trials {
     }
 
     /// Keeps the memory of a trial for the next one.
-    pub fn keep(&mut self, tried: Overlay) {
-        let (_, marks) = tried.into_parts();
+    pub fn keep(&mut self, noted: Overlay) {
+        let (_, marks) = noted.into_parts();
         self.marks = Some(marks);
     }
 }
 
-/// The memory of a run, with the writes and looks of a trial over it.
+/// The memory of a run, with the writes and looks of a trial noted over it.
 #[derive(Drop)]
-struct Trial<'r, 's> {
+struct NotingMemory<'r, 's> {
     run: &'r Run<'s>,
-    session: &'r Session,
-    tried: Overlay,
+    noted: Overlay,
 }
 
-impl Bus for Trial<'_, '_> {
-    ghost memory = { λ t. record {
-      own = own_of t.tried;
-      beneath = slice_index (state_of t.run.now).memory;
-      looks = looks_of t.tried;
+impl Bus for NotingMemory<'_, '_> {
+    ghost memory = { λ m. record {
+      own = own_of m.noted;
+      beneath = slice_index (state_of m.run.now).memory;
+      looks = looks_of m.noted;
       lender = None;
     } };
 
-    ghost is_ready = { λ t. is_ready_at t.tried };
+    ghost is_ready = { λ m. is_ready_at m.noted };
 
     fn ready(&mut self, a: u16) -> Result<(), AllocError> {
-        self.tried.ready(a)
+        self.noted.ready(a)
     }
 
     fn read(&mut self, a: u16) -> u8 {
         // This only notes the look: the byte may be one that the run wrote.
-        self.tried.read(self.session.image(), a);
-        self.tried.written(a).unwrap_or(self.run.byte(a))
+        self.noted.read(self.run.session().image(), a);
+        self.noted.written(a).unwrap_or(self.run.byte(a))
     }
 
     fn write(&mut self, a: u16, value: u8) {
-        self.tried.write(a, value)
+        self.noted.write(a, value)
     }
 }
 
@@ -85,32 +81,24 @@ impl Bus for Trial<'_, '_> {
 /// # Errors
 ///
 /// `Err` means out of memory.
-pub fn next_cells(
-    run: &Run<'_>,
-    session: &Session,
-    trials: &mut Trials,
-) -> Result<Overlay, AllocError>
-    requires call { IsAtCall run.now }
-    requires session { run.now.session ≡ session.now }
-    ensures { IfOk result (λ o. NotesStep session.now (state_of run.now) (own_of o) (looks_of o)) }
+pub fn next_cells(run: &Run<'_>, spare: &mut SpareMemory) -> Result<Overlay, AllocError>
+    requires { is_call (state_of run.now).core ≡ true }
+    ensures { IfOk result (λ o. NotesStep run.now.session (state_of run.now) (own_of o) (looks_of o)) }
 {
+    let session = run.session();
     let state = run.state();
     let mut desk = state.desk.at_same_spot()?;
-    let tried = trials.take(desk.allocator())?;
+    let noted = spare.take(desk.allocator())?;
     let mut changes = state.changes.snapshot()?;
     let mut table = Table::new(session.files(), &mut changes);
     let mut regs = state.regs;
-    let mut trial = Trial {
-        run,
-        session,
-        tried,
-    };
+    let mut memory = NotingMemory { run, noted };
     call(
         &mut regs,
-        &mut trial,
+        &mut memory,
         &mut table,
         &mut desk,
         session.script(),
     )?;
-    Ok(trial.tried)
+    Ok(memory.noted)
 }

@@ -1,25 +1,20 @@
 -- How make reads a written line.
-use Rattle.std.proofs.Common.{◌≡◌, ℕ, suc, refl, ◌-◌, ◌&&◌, not, nat_lt, Bool, true, false, List, [], ◌∷◌, ◌++◌, map, filter, length, eqb, slice_get, codes, Option, Some, None, inl, inr, ap, sym, ◌∙◌, append_assoc, append-nil, arith}
+use Rattle.std.proofs.Common.{◌≡◌, ℕ, suc, refl, ◌-◌, ◌&&◌, not, nat_lt, Bool, true, false, List, [], ◌∷◌, ◌++◌, map, filter, length, eqb, slice_get, slice_index, get_or, codes, Option, Some, None, inl, inr, ap, sym, ◌∙◌, append_assoc, append-nil, arith}
 use Rattle.std.proofs.lemmas.Bool.{cases_Bool, false≢true, true≢false}
 use Rattle.std.proofs.lemmas.Bool.Decides.{eqb_tells}
 use Rattle.std.proofs.lemmas.List.Folds.{list_all-append}
 use Rattle.std.specs.List.{flat_map, list_all, list_any}
 use Rattle.std.specs.Option.{option_map_or}
-use Rattle.command_words.specs.declared.words.SessionWords.{SessionWords}
 use Rattle.filenames.specs.Names.{Key}
 use Rattle.folders.specs.FileSystem.{Path}
 use Rattle.folders.specs.FolderNames.{folder_name, path_text}
-use Rattle.hostfiles.specs.Hosts.{Host}
 use Rattle.std.specs.Char.{to_ascii_lowercase}
 use Rattle.make_rules.specs.Carried.{as_read, ends_with_meaning, fits_call, has_home, has_meaning, has_meaning_in_call, has_meaning_last, is_carried, is_own_target}
 use Rattle.make_rules.specs.Escapes.{backslashes, escaped, prerequisite}
-use Rattle.make_rules.specs.Files.{drive_of, in_call_part, is_absent, is_target, path_in_call, paths_in_call}
+use Rattle.make_rules.specs.Files.{each_absent, is_target, path_in_call, paths_in_call}
 use Rattle.folders.specs.declared.drive_folder.DriveFolder.{DriveFolder}
 use Rattle.make_rules.specs.Reading.{ReadsRule, Sign, Named, Mark, Backslashes, after, after_blanks, before, between_blanks, names, signs, signs_of, value_of, with_name}
-use Rattle.std.specs.FinMap.{keys}
-use Rattle.first_looks.specs.FirstLooks.{FirstLooksView}
-use Rattle.machine.specs.Inputs.{Session}
-use Rattle.make_rules.specs.Rule.{IsReadByMake, all_paths, call, missing_paths, needed_paths, rule_line, targets_text}
+use Rattle.make_rules.specs.Rule.{IsReadByMake, Needs, call, rule_line, targets_text}
 use Rattle.make_rules.proofs.SignLemmas.{AllInCall, AllPlain, arguments_signs, ends_plainly, path_signs, prerequisite_signs}
 
 and_true : (x y : Bool) → (x && y) ≡ true → (x ≡ true) × (y ≡ true)
@@ -231,29 +226,21 @@ paths_fit targets (Some d) key =
     let lower = path_text d.folder.now (map to_ascii_lowercase (folder_name key)) in
     both_fit (path_in_call targets upper) (path_in_call targets lower) (in_call_fits targets upper) (in_call_fits targets lower)
 
-part_fits : (targets : List Path) (host : Host) (drives : List (Option DriveFolder)) (key : Key) → list_all fits_call (in_call_part targets host drives key) ≡ true
-part_fits targets host drives key = elim (cases_Bool (is_absent host key)) [
-  | inl e ↦ rw e (paths_fit targets (drive_of drives key) key)
-  | inr e ↦ rw e refl
-]
-
-pub all_fit : (targets : List Path) (host : Host) (drives : List (Option DriveFolder)) (keys : List Key) → list_all fits_call (flat_map (in_call_part targets host drives) keys) ≡ true
-all_fit targets host drives [] = refl
-all_fit targets host drives (k ∷ ks) =
-    both_fit (in_call_part targets host drives k) (flat_map (in_call_part targets host drives) ks) (part_fits targets host drives k) (all_fit targets host drives ks)
+pub all_fit : (targets : List Path) (drives : List (Option DriveFolder)) (files : List Key) → list_all fits_call (each_absent (paths_in_call targets) drives files) ≡ true
+all_fit targets drives [] = refl
+all_fit targets drives (k ∷ ks) =
+    both_fit (paths_in_call targets (get_or drives (slice_index k 0) None) k) (each_absent (paths_in_call targets) drives ks) (paths_fit targets (get_or drives (slice_index k 0) None) k) (all_fit targets drives ks)
 
 -- ---- the rule
 
-module _ (targets : List Path) (w : SessionWords) (drives : List (Option DriveFolder)) (s : Session) (t : FirstLooksView) where
-  -- If a rule can have all paths, make reads the rule as its definition says.
-  pub of_all : list_all is_carried (all_paths targets w drives s t) ≡ true → IsReadByMake targets w drives s t
-  of_all carried =
-      let needs = needed_paths targets w drives s t in
-      let missing = missing_paths targets drives s t in
-      let one = and_true (list_all is_carried (targets ++ needs)) (list_all is_carried missing) (sym (list_all-append is_carried (targets ++ needs) missing) ∙ carried) in
-      let two = and_true (list_all is_carried targets) (list_all is_carried needs) (sym (list_all-append is_carried targets needs) ∙ one.0) in
-      record {
-        carried = carried;
-        first = λ exists. reads_line exists targets needs missing two.0 two.1 one.1 (all_fit targets s.files drives (keys t.files.has));
-        others = λ exists path h. reads_line exists (path ∷ []) [] [] (ap (λ b. b && true) h) refl refl refl;
-      }
+-- If a rule can have all paths, make reads the rule as its definition says.
+pub of_all : (targets : List Path) (n : Needs) → list_all is_carried (targets ++ (n.program ++ n.others) ++ n.missing) ≡ true → list_all fits_call n.missing ≡ true → IsReadByMake targets n
+of_all targets n carried fit =
+    let needs = n.program ++ n.others in
+    let one = and_true (list_all is_carried (targets ++ needs)) (list_all is_carried n.missing) (sym (list_all-append is_carried (targets ++ needs) n.missing) ∙ carried) in
+    let two = and_true (list_all is_carried targets) (list_all is_carried needs) (sym (list_all-append is_carried targets needs) ∙ one.0) in
+    record {
+      carried = carried;
+      first = λ exists. reads_line exists targets needs n.missing two.0 two.1 one.1 fit;
+      others = λ exists path h. reads_line exists (path ∷ []) [] [] (ap (λ b. b && true) h) refl refl refl;
+    }

@@ -20,15 +20,14 @@ use Rattle.folders.specs.FolderNames.{folder_name, key_in, path_text}
 use Rattle.hostfiles.specs.Hosts.{Host}
 use Rattle.machine.specs.Inputs.{Session}
 use Rattle.make_rules.specs.Carried.{fits_call, is_carried}
-use Rattle.make_rules.specs.Files.{absent_folder_part, all_absent_folders, all_files, all_folders, all_in_call, drive_files, drive_folder, drive_of, file_part, folder_of_absent, folder_path, in_call_part, is_absent, is_asked_about, is_other, is_searched, name_found, paths_in_call}
+use Rattle.make_rules.specs.Files.{absent_files, all_files, all_folders, drive_files, drive_folder, each_absent, file_part, folder_of_absent, folder_path, is_absent, is_asked_about, is_other, is_searched, name_found, paths_in_call}
 use Rattle.make_rules.specs.RefusedPaths.{file_paths, is_refused, is_refused_drive, is_refused_folder, refuses_rule, refuses_words}
-use Rattle.make_rules.specs.Rule.{IsReadByMake, all_paths, rule_text, missing_paths, needed_paths, other_paths, path_if_asked, program_part}
+use Rattle.make_rules.specs.Rule.{IsReadByMake, needs_of, path_if_asked}
 use Rattle.folders.specs.DriveFolders.{both, folders_with, seen}
 use Rattle.folders.specs.declared.drive_folder.DriveFolder.{DriveFolder}
 use Rattle.folders.specs.declared.listing.Listing.{Listing}
-use Rattle.make_rules.specs.RunRules.{IsRule, Sources}
-use Rattle.std.specs.Prelude.{IfOk, Result, Ok, Err, Vec}
 use Rattle.make_rules.proofs.NamePaths.{carried_in, name_lowered, name_printed, name_with_key}
+use Rattle.make_rules.proofs.ReadingLemmas.{all_fit, of_all}
 
 pub neither : (x y : Bool) → (x || y) ≡ false → (x ≡ false) × (y ≡ false)
 neither false y h = (refl, h)
@@ -43,6 +42,14 @@ joined xs ys p q = list_all-append is_carried xs ys ∙ and_from (list_all is_ca
 each : {X : Type 0} (part : X → List Path) (xs : List X) → ((x : X) → AllCarried (part x)) → AllCarried (flat_map part xs)
 each part [] h = refl
 each part (x ∷ xs) h = joined (part x) (flat_map part xs) (h x) (each part xs h)
+
+-- The same for the ones that pass a test.
+each_kept : {X : Type 0} (part : X → List Path) (test : X → Bool) (xs : List X) → ((x : X) → test x ≡ true → AllCarried (part x)) → AllCarried (flat_map part (filter test xs))
+each_kept part test [] h = refl
+each_kept part test (x ∷ xs) h = elim (cases_Bool (test x)) [
+  | inl e ↦ rw e (joined (part x) (flat_map part (filter test xs)) (h x e) (each_kept part test xs h))
+  | inr e ↦ rw e (each_kept part test xs h)
+]
 
 kept : (test : Path → Bool) (paths : List Path) → AllCarried paths → AllCarried (filter test paths)
 kept test [] h = refl
@@ -115,45 +122,40 @@ module _ (targets : List Path) where
   absent_folder None key h = refl
   absent_folder (Some d) key h = none_or_one _ (folder_path d.folder.now) (not-false (is_carried (folder_path d.folder.now)) h)
 
-  module _ (host : Host) (drives : List (Option DriveFolder)) (allowed : list_any is_refused_drive drives ≡ false) where
-    missing_step : (r : Bool) (key : Key) → is_absent host key ≡ r → AllCarried (cond r (paths_in_call targets (drive_of drives key) key) [])
-    missing_step true key e = in_call (drive_of drives key) key (allowed_at is_refused_drive drives (slice_index key 0) refl allowed) (and_parts (is_sayable key) (not (contains_key host key)) e).0
-    missing_step false key e = refl
+  module _ (drives : List (Option DriveFolder)) (allowed : list_any is_refused_drive drives ≡ false) (host : Host) (asked : FileSteps) where
+    all_missing : AllCarried (each_absent (paths_in_call targets) drives (absent_files host asked))
+    all_missing = each_kept (λ key. paths_in_call targets (get_or drives (slice_index key 0) None) key) (is_absent host) (keys asked.has) (λ key e.
+        in_call (get_or drives (slice_index key 0) None) key (allowed_at is_refused_drive drives (slice_index key 0) refl allowed) (and_parts (is_sayable key) (not (contains_key host key)) e).0)
 
-    absent_step : (r : Bool) (key : Key) → AllCarried (cond r (folder_of_absent targets (drive_of drives key) key) [])
-    absent_step true key = absent_folder (drive_of drives key) key (allowed_at is_refused_drive drives (slice_index key 0) refl allowed)
-    absent_step false key = refl
-
-    all_missing : (asked : FileSteps) → AllCarried (all_in_call targets host asked drives)
-    all_missing asked = each (in_call_part targets host drives) (keys asked.has) (λ key. missing_step (is_absent host key) key refl)
-
-    all_absent : (asked : FileSteps) → AllCarried (all_absent_folders targets host asked drives)
-    all_absent asked = each (absent_folder_part targets host drives) (keys asked.has) (λ key. absent_step (is_absent host key) key)
+    all_absent : AllCarried (each_absent (folder_of_absent targets) drives (absent_files host asked))
+    all_absent = each (λ key. folder_of_absent targets (get_or drives (slice_index key 0) None) key) (absent_files host asked) (λ key.
+        absent_folder (get_or drives (slice_index key 0) None) key (allowed_at is_refused_drive drives (slice_index key 0) refl allowed))
 
 -- ---- all paths
 
 pub folders_allowed : (w : SessionWords) → refuses_words w ≡ false → list_any is_refused_folder w.files ≡ false
 folders_allowed w h = (neither (list_any is_refused (Some w.program ∷ w.console ∷ [])) (list_any is_refused_folder w.files) h).1
 
-module _ (targets : List Path) (w : SessionWords) (drives : List (Option DriveFolder)) (s : Session) (t : FirstLooksView) where
-  pub all_carried : list_all is_carried targets ≡ true → refuses_words w ≡ false → list_any is_refused_drive drives ≡ false
-      → list_all is_carried (all_paths targets w drives s t) ≡ true
-  all_carried of_targets of_words of_drives =
-      let words = neither (list_any is_refused (Some w.program ∷ w.console ∷ [])) (list_any is_refused_folder w.files) of_words in
-      let program = neither (is_refused (Some w.program)) (list_any is_refused (w.console ∷ [])) words.0 in
-      let console = neither (is_refused w.console) false program.1 in
-      let asked = path_if_asked (rows_from Joined t.offsets 0) w.console in
-      let files = all_files t.files drives in
-      let folders = all_folders t.files drives in
-      let absent = all_absent_folders targets s.files t.files drives in
-      let others : AllCarried (other_paths targets w drives s t) =
-      kept (is_other targets) (((asked ++ files) ++ folders) ++ absent) (joined ((asked ++ files) ++ folders) absent (joined (asked ++ files) folders
-      (joined asked files (asked_path (rows_from Joined t.offsets 0) w.console console.0) (each_drive (drive_files t.files) drives of_drives (files_of_drive t.files)))
-      (each_drive (drive_folder t.files) drives of_drives (folder_of_drive t.files))) (all_absent targets s.files drives of_drives t.files)) in
-      let first : AllCarried (program_part targets w t) = kept (is_other targets) _ (asked_path (rows_from Joined t.cells 256) (Some w.program) program.0) in
-      joined (targets ++ needed_paths targets w drives s t) (missing_paths targets drives s t)
-      (joined targets (needed_paths targets w drives s t) of_targets (joined (program_part targets w t) (other_paths targets w drives s t) first others))
-      (all_missing targets s.files drives of_drives t.files)
+-- Make reads the rule as its definition says.
+pub read_by_make : (targets : List Path) (w : SessionWords) (drives : List (Option DriveFolder)) (s : Session) (t : FirstLooksView) → list_all is_carried targets ≡ true
+    → refuses_words w ≡ false → list_any is_refused_drive drives ≡ false → IsReadByMake targets (needs_of targets w drives s t)
+read_by_make targets w drives s t of_targets of_words of_drives =
+    let words = neither (list_any is_refused (Some w.program ∷ w.console ∷ [])) (list_any is_refused_folder w.files) of_words in
+    let program = neither (is_refused (Some w.program)) (list_any is_refused (w.console ∷ [])) words.0 in
+    let console = neither (is_refused w.console) false program.1 in
+    let asked = path_if_asked (rows_from Joined t.offsets 0) w.console in
+    let files = all_files t.files drives in
+    let folders = all_folders t.files drives in
+    let absent = each_absent (folder_of_absent targets) drives (absent_files s.files t.files) in
+    let n = needs_of targets w drives s t in
+    let others : AllCarried n.others =
+    kept (is_other targets) (((asked ++ files) ++ folders) ++ absent) (joined ((asked ++ files) ++ folders) absent (joined (asked ++ files) folders
+    (joined asked files (asked_path (rows_from Joined t.offsets 0) w.console console.0) (each_drive (drive_files t.files) drives of_drives (files_of_drive t.files)))
+    (each_drive (drive_folder t.files) drives of_drives (folder_of_drive t.files))) (all_absent targets drives of_drives s.files t.files)) in
+    let first : AllCarried n.program = kept (is_other targets) _ (asked_path (rows_from Joined t.cells 256) (Some w.program) program.0) in
+    of_all targets n (joined (targets ++ (n.program ++ n.others)) n.missing
+    (joined targets (n.program ++ n.others) of_targets (joined n.program n.others first others)) (all_missing targets drives of_drives s.files t.files))
+    (all_fit targets drives (absent_files s.files t.files))
 
 -- What is known of words whose paths were allowed.
 pub record AreAllowed (w : SessionWords) (path : Bor (List ℕ)) (written : List (Option (Bor (List ℕ)))) : Type 0 where
@@ -204,10 +206,3 @@ four_drives folders listings (p ∷ q ∷ r ∷ s ∷ []) e h = rw (at 0 p e, at
 pub drives_allowed : (w : SessionWords) (drives : List (Option DriveFolder)) (listings : List (Option Listing)) → map seen drives ≡ folders_with w.files listings
     → refuses_words w ≡ false → list_any is_refused_drive drives ≡ false
 drives_allowed w drives listings e h = four_drives w.files listings drives e (folders_allowed w h)
-
--- The text that is made is the rule.
-pub is_rule : {E Z : Type 0} (w : SessionWords) (targets : List Path) (listings : List (Option Listing)) (s : Session) (from : Sources w listings s) (r : Result (Vec ℕ Z) E)
-    → IfOk r (λ text. text.items ≡ rule_text targets w from.drives s from.looks from.cause) → IfOk r (λ _. IsReadByMake targets w from.drives s from.looks)
-    → IfOk r (λ text. IsRule w targets listings s text.items)
-is_rule w targets listings s from (Ok text) is read = record { from = from; is = is; read = read }
-is_rule w targets listings s from (Err e) is read = tt

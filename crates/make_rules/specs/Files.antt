@@ -1,5 +1,5 @@
 -- The host files on which a run depends, as paths. (This project's profile.)
-use Rattle.std.specs.Prelude.{ℕ, ◌∷◌, ◌++◌, ◌||◌, ◌&&◌, not, Bool, if◌then◌else◌, is_some, List, [], map, get_or, slice_index, Option, Some, None, String, string_bytes, codes, bytes_eq}
+use Rattle.std.specs.Prelude.{ℕ, ◌∷◌, ◌++◌, ◌||◌, ◌&&◌, not, Bool, if◌then◌else◌, is_some, List, [], map, filter, get_or, slice_index, Option, Some, None, String, string_bytes, codes, bytes_eq}
 use Rattle.std.specs.Char.{to_ascii_lowercase}
 use Rattle.std.specs.List.{flat_map, list_any}
 use Rattle.std.specs.FinMap.{contains_key, get, keys}
@@ -60,6 +60,10 @@ all_folders asked drives = flat_map (drive_folder asked) drives
 abbrev pub is_absent : Host → Key → Bool
 is_absent host key = is_sayable key && not (contains_key host key)
 
+-- The files that were asked for and are not there, in the order of their keys.
+abbrev pub absent_files : Host → FileSteps → List Key
+absent_files host asked = filter (is_absent host) (keys asked.has)
+
 -- Whether make takes a path for one of the targets.
 abbrev pub is_target : List Path → Path → Bool
 is_target targets path = list_any (λ target. bytes_eq (as_read path) (as_read target)) targets
@@ -85,29 +89,14 @@ abbrev pub folder_of_absent : List Path → Option DriveFolder → Key → List 
 folder_of_absent targets None key = []
 folder_of_absent targets (Some d) key = folder_unless_in_call targets d.folder.now (path_text d.folder.now (folder_name key))
 
-abbrev pub drive_of : List (Option DriveFolder) → Key → Option DriveFolder
-drive_of drives key = get_or drives (slice_index key 0) None
+-- A comment about a file that is not there: the path that it would have in the folder of its drive, or its name if the drive has no folder.
+abbrev pub comment : Path → List ℕ
+comment path = codes "# not there: " ++ path ++ 10 ∷ []
 
-abbrev pub in_call_part : List Path → Host → List (Option DriveFolder) → Key → List Path
-in_call_part targets host drives key = if is_absent host key then paths_in_call targets (drive_of drives key) key else []
+abbrev pub comment_on_absent : Option DriveFolder → Key → List ℕ
+comment_on_absent None key = comment (display_text key)
+comment_on_absent (Some d) key = comment (path_text d.folder.now (folder_name key))
 
-abbrev pub absent_folder_part : List Path → Host → List (Option DriveFolder) → Key → List Path
-absent_folder_part targets host drives key = if is_absent host key then folder_of_absent targets (drive_of drives key) key else []
-
-abbrev pub all_in_call : List Path → Host → FileSteps → List (Option DriveFolder) → List Path
-all_in_call targets host asked drives = flat_map (in_call_part targets host drives) (keys asked.has)
-
-abbrev pub all_absent_folders : List Path → Host → FileSteps → List (Option DriveFolder) → List Path
-all_absent_folders targets host asked drives = flat_map (absent_folder_part targets host drives) (keys asked.has)
-
--- The path that a file would have in the folder of its drive, or its name if the drive has no folder.
-abbrev pub absent_path : Option DriveFolder → Key → Path
-absent_path None key = display_text key
-absent_path (Some d) key = path_text d.folder.now (folder_name key)
-
--- A comment about a file that was asked for and is not there.
-abbrev pub absent_part : Host → List (Option DriveFolder) → Key → List ℕ
-absent_part host drives key = if is_absent host key then codes "# not there: " ++ absent_path (drive_of drives key) key ++ 10 ∷ [] else []
-
-abbrev pub absent_lines : Host → FileSteps → List (Option DriveFolder) → List ℕ
-absent_lines host asked drives = flat_map (absent_part host drives) (keys asked.has)
+-- A part of the rule for each of some files, by the folder of its drive.
+abbrev pub each_absent : {X : Type 0} → (Option DriveFolder → Key → List X) → List (Option DriveFolder) → List Key → List X
+each_absent part drives files = flat_map (λ key. part (get_or drives (slice_index key 0) None) key) files

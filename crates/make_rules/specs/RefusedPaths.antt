@@ -8,6 +8,8 @@ use Rattle.make_rules.specs.Carried.{is_carried}
 use Rattle.make_rules.specs.Files.{folder_path}
 use Rattle.folders.specs.declared.drive_folder.DriveFolder.{DriveFolder}
 use Rattle.faults.specs.declared.fault.Fault.{Fault}
+use Rattle.make_rules.specs.declared.refused_paths.Kind.{Kind}
+use Rattle.make_rules.specs.declared.refused_paths.Kind.TheVariants.{File, Folder}
 use Rattle.faults.specs.declared.fault.Fault.TheVariants.{RulePath, OutOfMemory}
 
 -- Whether a rule cannot have the path of a file, or a folder, if there is one.
@@ -43,13 +45,22 @@ IsRefused word (RulePath path) = string_bytes path ≡ word
 IsRefused word OutOfMemory = Unit {0}
 IsRefused word fault = ⊥
 
--- An error for such a path.
-pub record IsRefusalOf (w : SessionWords) (path : Bor (List ℕ)) (written : List (Option (Bor (List ℕ)))) (fault : Fault) : Type 0 where
+-- The same by what the path is the path of.
+abbrev pub refuses : Kind → Option (Bor (List ℕ)) → Bool
+refuses File = is_refused
+refuses Folder = is_refused_folder
+
+-- An error for one of these paths that a rule cannot have.
+pub record IsRefusalIn (kind : Kind) (paths : List (Option (Bor (List ℕ)))) (fault : Fault) : Type 0 where
   pub word : Bor (List ℕ)
-  pub refused : (Contains (file_paths w path) (Some word) × (is_carried word.now ≡ false))
-      ⊎ ((Contains w.files (Some word) ⊎ Contains written (Some word)) × (is_carried (folder_path word.now) ≡ false))
+  pub among : Contains paths (Some word)
+  pub refused : refuses kind (Some word) ≡ true
   pub is : IsRefused word.now fault
 
--- Why the paths are not allowed: one of them is refused, or an allocation failed.
+-- Why paths are not allowed: one of them is refused, or an allocation failed.
+abbrev pub FailsEach : Kind → List (Option (Bor (List ℕ))) → Fault → Type 0
+FailsEach kind paths fault = IsRefusalIn kind paths fault ⊎ (fault ≡ OutOfMemory)
+
 abbrev pub FailsPaths : SessionWords → Bor (List ℕ) → List (Option (Bor (List ℕ))) → Fault → Type 0
-FailsPaths w path written fault = ((refuses_rule w path written ≡ true) × IsRefusalOf w path written fault) ⊎ (fault ≡ OutOfMemory)
+FailsPaths w path written fault =
+    FailsEach File (file_paths w path) fault ⊎ (FailsEach Folder w.files fault ⊎ FailsEach Folder written fault)

@@ -14,7 +14,7 @@ use Rattle.dependencies.specs.declared.rows.Joining.TheVariants.{Joined}
 use Rattle.report_lines.specs.FirstLines.{line, stop_line}
 use Rattle.make_rules.specs.Carried.{is_carried}
 use Rattle.make_rules.specs.Escapes.{argument, escaped, prerequisite}
-use Rattle.make_rules.specs.Files.{absent_lines, all_absent_folders, all_files, all_folders, all_in_call, is_other}
+use Rattle.make_rules.specs.Files.{absent_files, all_files, all_folders, comment_on_absent, each_absent, folder_of_absent, is_other, paths_in_call}
 use Rattle.make_rules.specs.Reading.{ReadsRule}
 use Rattle.folders.specs.declared.drive_folder.DriveFolder.{DriveFolder}
 
@@ -26,27 +26,22 @@ path_if_asked [] path = []
 path_if_asked (r ∷ rs) None = []
 path_if_asked (r ∷ rs) (Some path) = path.now ∷ []
 
--- The program, if a cell from 0100H on was asked for. No target depends on itself.
-abbrev pub program_part : List Path → SessionWords → FirstLooksView → List Path
-program_part targets w t = filter (is_other targets) (path_if_asked (rows_from Joined t.cells 256) (Some w.program))
+-- The program, if a cell from 0100H on was asked for; the script, if one of its offsets was, with the files and the folders; and for the
+-- files that are not there, their paths in a call, and comments. No target depends on itself.
+pub record Needs : Type 0 where
+  pub program : List Path
+  pub others : List Path
+  pub missing : List Path
+  pub comments : List ℕ
 
--- The script, if one of its offsets was asked for, the files and the folders, without the targets.
-abbrev pub other_paths : List Path → SessionWords → List (Option DriveFolder) → Session → FirstLooksView → List Path
-other_paths targets w drives s t = filter (is_other targets)
-    (path_if_asked (rows_from Joined t.offsets 0) w.console ++ all_files t.files drives ++ all_folders t.files drives
-    ++ all_absent_folders targets s.files t.files drives)
-
--- All paths that are there.
-abbrev pub needed_paths : List Path → SessionWords → List (Option DriveFolder) → Session → FirstLooksView → List Path
-needed_paths targets w drives s t = program_part targets w t ++ other_paths targets w drives s t
-
--- The paths of files that are not there.
-abbrev pub missing_paths : List Path → List (Option DriveFolder) → Session → FirstLooksView → List Path
-missing_paths targets drives s t = all_in_call targets s.files t.files drives
-
--- The targets and all of these.
-abbrev pub all_paths : List Path → SessionWords → List (Option DriveFolder) → Session → FirstLooksView → List Path
-all_paths targets w drives s t = targets ++ needed_paths targets w drives s t ++ missing_paths targets drives s t
+abbrev pub needs_of : List Path → SessionWords → List (Option DriveFolder) → Session → FirstLooksView → Needs
+needs_of targets w drives s t = record {
+  program = filter (is_other targets) (path_if_asked (rows_from Joined t.cells 256) (Some w.program));
+  others = filter (is_other targets) (path_if_asked (rows_from Joined t.offsets 0) w.console ++ all_files t.files drives
+      ++ all_folders t.files drives ++ each_absent (folder_of_absent targets) drives (absent_files s.files t.files));
+  missing = each_absent (paths_in_call targets) drives (absent_files s.files t.files);
+  comments = each_absent comment_on_absent drives (absent_files s.files t.files);
+}
 
 -- ---- the text
 
@@ -74,17 +69,16 @@ stop_comment WarmBoot = []
 stop_comment cause = codes "# " ++ stop_line cause
 
 -- The rule, each path but the program's as a target, and comments about files that are not there and about the stop.
-abbrev pub rule_text : List Path → SessionWords → List (Option DriveFolder) → Session → FirstLooksView → Cause → List ℕ
-rule_text targets w drives s t cause =
-    line (rule_line targets (needed_paths targets w drives s t) (missing_paths targets drives s t)) ++ flat_map empty_rule (other_paths targets w drives s t)
-    ++ absent_lines s.files t.files drives ++ stop_comment cause
+abbrev pub rule_text : List Path → Needs → Cause → List ℕ
+rule_text targets n cause =
+    line (rule_line targets (n.program ++ n.others) n.missing) ++ flat_map empty_rule n.others ++ n.comments ++ stop_comment cause
 
 -- ---- how make reads it
 
 -- Each path can be in a rule; and whichever files exist, make reads the first line as the targets with exactly the paths that are there, and
 -- those of the others that exist by then; and each other rule as a path alone.
-pub record IsReadByMake (targets : List Path) (w : SessionWords) (drives : List (Option DriveFolder)) (s : Session) (t : FirstLooksView) : Type 0 where
-  pub carried : list_all is_carried (all_paths targets w drives s t) ≡ true
-  pub first : (exists : Path → Bool) → ReadsRule exists (rule_line targets (needed_paths targets w drives s t) (missing_paths targets drives s t))
-      targets (needed_paths targets w drives s t ++ filter exists (missing_paths targets drives s t))
+pub record IsReadByMake (targets : List Path) (n : Needs) : Type 0 where
+  pub carried : list_all is_carried (targets ++ (n.program ++ n.others) ++ n.missing) ≡ true
+  pub first : (exists : Path → Bool) → ReadsRule exists (rule_line targets (n.program ++ n.others) n.missing)
+      targets (n.program ++ n.others ++ filter exists n.missing)
   pub others : (exists : Path → Bool) (path : Path) → is_carried path ≡ true → ReadsRule exists (rule_line (path ∷ []) [] []) (path ∷ []) []

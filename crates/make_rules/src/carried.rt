@@ -2,11 +2,11 @@
 
 ghost use Rattle.std.specs.Prelude.{◌≡◌};
 ghost use Rattle.std.specs.List.{list_all, list_any};
-ghost use Rattle.make_rules.specs.Carried as texts;
+ghost use Rattle.make_rules.specs.Carried as carried;
 
 // Returns whether a byte has a meaning in a rule that no backslash takes from it everywhere.
 fn has_meaning(byte: u8) -> bool
-    ensures { result ≡ texts.has_meaning byte }
+    ensures { result ≡ carried.has_meaning byte }
 {
     matches!(
         byte,
@@ -16,28 +16,28 @@ fn has_meaning(byte: u8) -> bool
 
 // Returns whether one of these bytes has such a meaning.
 fn any_has_meaning(path: &[u8]) -> bool
-    ensures { result ≡ list_any texts.has_meaning path.now }
+    ensures { result ≡ list_any carried.has_meaning path.now }
 {
     path.iter().any(|byte| has_meaning(*byte))
 }
 
 // Returns whether a byte has a meaning at the end of a path.
 fn has_meaning_last(byte: u8) -> bool
-    ensures { result ≡ texts.has_meaning_last byte }
+    ensures { result ≡ carried.has_meaning_last byte }
 {
     matches!(byte, b' ' | b'&' | b')' | b'\\')
 }
 
 // Returns whether a path ends with such a byte.
 fn ends_with_meaning(path: &[u8]) -> bool
-    ensures { result ≡ texts.ends_with_meaning path.now }
+    ensures { result ≡ carried.ends_with_meaning path.now }
 {
     path.last().is_some_and(|byte| has_meaning_last(*byte))
 }
 
 /// Returns a path as make reads it: without each leading `./` and the slashes after it, but `./` if nothing else is left.
 pub fn as_read(path: &[u8]) -> &[u8]
-    ensures { result.now ≡ texts.as_read path.now }
+    ensures { result.now ≡ carried.as_read path.now }
 {
     let mut after = false;
     for index in 0..path.len() {
@@ -53,14 +53,14 @@ pub fn as_read(path: &[u8]) -> &[u8]
 
 // Returns whether a path that make reads is in a home folder.
 fn has_home(path: &[u8]) -> bool
-    ensures { result ≡ texts.has_home path.now }
+    ensures { result ≡ carried.has_home path.now }
 {
     path.first().is_some_and(|byte| *byte == b'~')
 }
 
 // Returns whether these bytes are capitals.
 fn are_capitals(bytes: &[u8]) -> bool
-    ensures { result ≡ list_all texts.is_capital bytes.now }
+    ensures { result ≡ list_all carried.is_capital bytes.now }
 {
     bytes
         .iter()
@@ -69,7 +69,7 @@ fn are_capitals(bytes: &[u8]) -> bool
 
 // Returns whether a path is named as make's own targets are.
 fn is_own_target(path: &[u8]) -> bool
-    ensures { result ≡ texts.is_own_target path.now }
+    ensures { result ≡ carried.is_own_target path.now }
 {
     path.len() > 1 && path[0] == b'.' && are_capitals(&path[1..])
 }
@@ -77,7 +77,7 @@ fn is_own_target(path: &[u8]) -> bool
 /// Returns whether a rule can have a path, as a target and as a prerequisite.
 #[tactic(auto, unfolding(crate::specs::Carried::is_carried))]
 pub fn is_carried(path: &[u8]) -> bool
-    ensures { result ≡ texts.is_carried path.now }
+    ensures { result ≡ carried.is_carried path.now }
 {
     !path.is_empty()
         && !any_has_meaning(path)
@@ -88,14 +88,14 @@ pub fn is_carried(path: &[u8]) -> bool
 
 // Returns whether a byte has a meaning within a call of a function of make.
 fn has_meaning_in_call(byte: u8) -> bool
-    ensures { result ≡ texts.has_meaning_in_call byte }
+    ensures { result ≡ carried.has_meaning_in_call byte }
 {
     matches!(byte, b' ' | b'#' | b'(' | b')' | b',' | b'\\')
 }
 
 /// Returns whether a call of a function of make can have a path.
 pub fn fits_call(path: &[u8]) -> bool
-    ensures { result ≡ texts.fits_call path.now }
+    ensures { result ≡ carried.fits_call path.now }
 {
     for byte in path {
         if has_meaning_in_call(*byte) {

@@ -1,6 +1,6 @@
 // Paths as a rule has them.
 
-ghost use Rattle.std.specs.Prelude.{◌≡◌, ◌<◌, ◌^◌, ◌++◌, OnOk, map, replicate, string_bytes};
+ghost use Rattle.std.specs.Prelude.{◌≡◌, ◌<◌, ◌^◌, ◌++◌, OnOk, map, string_bytes};
 ghost use Rattle.std.specs.List.{flat_map};
 ghost use Rattle.make_rules.specs.Escapes.{argument, doubled, escaped, marks, prerequisite};
 
@@ -26,19 +26,9 @@ fn push_marks(text: &mut Vec<u8>, slashes: usize, byte: u8) -> Result<(), AllocE
 {
     match byte {
         b'$' => Ok(text.push(b'$')?),
-        b' ' | b'#' => push_backslashes(text, slashes + 1),
+        b' ' | b'#' => Ok(text.resize(text.len() + slashes + 1, b'\\')?),
         _ => Ok(()),
     }
-}
-
-// Appends backslashes.
-fn push_backslashes(text: &mut Vec<u8>, count: usize) -> Result<(), AllocError>
-    ensures { OnOk result (text.new.items ≡ text.old.items ++ replicate count 92) }
-{
-    for _ in 0..count {
-        text.push(b'\\')?;
-    }
-    Ok(())
 }
 
 // Appends a path with each `$` doubled.

@@ -1,7 +1,7 @@
 // The host files on which a run depends, as paths.
 
 ghost use Rattle.std.specs.Prelude.{◌≡◌, ◌++◌, OnOk, map, string_bytes};
-ghost use Rattle.make_rules.specs.Files as texts;
+ghost use Rattle.make_rules.specs.Files as files;
 
 use first_looks::FileSteps;
 use folders::{DriveFolder, path_in};
@@ -10,14 +10,14 @@ use std::alloc::{AllocError, Global};
 
 // Returns whether the directory of a drive was asked for.
 fn is_searched(asked: &FileSteps, drive: &DriveFolder<'_>) -> bool
-    ensures { result ≡ texts.is_searched asked.now drive.now }
+    ensures { result ≡ files.is_searched asked.now drive.now }
 {
     asked.directories[drive.listing.drive.number() as usize].is_some()
 }
 
 // Returns whether something was asked about the file of this key.
 fn is_asked_about(asked: &FileSteps, key: &Key) -> bool
-    ensures { result ≡ texts.is_asked_about asked.now key.now }
+    ensures { result ≡ files.is_asked_about asked.now key.now }
 {
     asked.has.contains_key(key)
         || asked.lengths.contains_key(key)
@@ -34,7 +34,7 @@ fn push_file(
     key: &Key,
 ) -> Result<(), AllocError>
     ensures { OnOk result (map string_bytes paths.new.items
-        ≡ map string_bytes paths.old.items ++ texts.part_of_file asked.now drive.now name.now key.now) }
+        ≡ map string_bytes paths.old.items ++ files.part_of_file asked.now drive.now name.now key.now) }
 {
     if is_searched(asked, drive) || is_asked_about(asked, key) {
         paths.push(path_in(alloc, drive.folder, name)?)?;
@@ -50,7 +50,7 @@ fn push_drive_files(
     drive: &Option<DriveFolder<'_>>,
 ) -> Result<(), AllocError>
     ensures { OnOk result (map string_bytes paths.new.items
-        ≡ map string_bytes paths.old.items ++ texts.drive_files asked.now drive.now) }
+        ≡ map string_bytes paths.old.items ++ files.drive_files asked.now drive.now) }
 {
     let Some(drive) = drive else {
         return Ok(());
@@ -71,7 +71,7 @@ pub fn push_files(
     drives: &[Option<DriveFolder<'_>>],
 ) -> Result<(), AllocError>
     ensures { OnOk result (map string_bytes paths.new.items
-        ≡ map string_bytes paths.old.items ++ texts.all_files asked.now drives.now) }
+        ≡ map string_bytes paths.old.items ++ files.all_files asked.now drives.now) }
 {
     for drive in drives {
         push_drive_files(alloc, paths, asked, drive)?;
@@ -87,7 +87,7 @@ fn push_folder(
     drive: &Option<DriveFolder<'_>>,
 ) -> Result<(), AllocError>
     ensures { OnOk result (map string_bytes paths.new.items
-        ≡ map string_bytes paths.old.items ++ texts.drive_folder asked.now drive.now) }
+        ≡ map string_bytes paths.old.items ++ files.drive_folder asked.now drive.now) }
 {
     let Some(drive) = drive else {
         return Ok(());
@@ -106,7 +106,7 @@ pub fn push_folders(
     drives: &[Option<DriveFolder<'_>>],
 ) -> Result<(), AllocError>
     ensures { OnOk result (map string_bytes paths.new.items
-        ≡ map string_bytes paths.old.items ++ texts.all_folders asked.now drives.now) }
+        ≡ map string_bytes paths.old.items ++ files.all_folders asked.now drives.now) }
 {
     for drive in drives {
         push_folder(alloc, paths, asked, drive)?;

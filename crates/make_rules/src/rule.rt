@@ -1,37 +1,26 @@
 // The rule for make.
 
 ghost use Rattle.std.specs.Prelude.{◌≡◌, ◌++◌, IfOk, OnOk, filter, map, string_bytes, true, false};
-ghost use Rattle.std.specs.List.{flat_map, list_all, list_any};
+ghost use Rattle.std.specs.List.{flat_map, list_all};
 ghost use Rattle.dependencies.specs.Dependencies.{AreDependencies};
 ghost use Rattle.dependencies.specs.Rows.{rows_from};
 ghost use Rattle.make_rules.specs.Carried.{is_carried};
-ghost use Rattle.make_rules.specs.Rule as texts;
+ghost use Rattle.make_rules.specs.Rule as rule;
 ghost use Rattle.report_lines.specs.FirstLines.{line};
 ghost use Rattle.make_rules.specs.Files.{is_other};
 ghost use Rattle.make_rules.specs.RunRules.{IsRule};
-ghost use Rattle.make_rules.specs.Paths.{ArePathsOf, line_of};
-ghost use Rattle.make_rules.specs.RefusedPaths.{is_refused_drive, refuses_words};
+ghost use Rattle.make_rules.specs.Paths.{collected};
+ghost use Rattle.make_rules.specs.RefusedPaths.{refuses_words};
 
 use crate::escapes::{push_arguments, push_make_path, push_prerequisites};
 use crate::files::{push_files, push_folders};
-use crate::missing::{is_target, push_absent_folders, push_absent_lines, push_missing_files};
+use crate::missing::{Paths, is_target, push_absent_files};
 use command_words::SessionWords;
 use dependencies::{Joining, StepTable, next_row};
 use folders::{DriveFolder, Listing};
 use machine::{Cause, PROGRAM_START, WholeRun};
 use report_lines::stop_line;
 use std::alloc::{AllocError, Global};
-
-/// The paths on which the targets depend.
-#[derive(Drop)]
-struct Paths {
-    // The program, if they depend on it.
-    program: Vec<String>,
-    // The script, the files and the folders.
-    others: Vec<String>,
-    // The paths of files that are not there.
-    missing: Vec<String>,
-}
 
 // Adds a path, if a place of its file from `from` on was asked for.
 fn push_if_asked<T: StepTable>(
@@ -42,7 +31,7 @@ fn push_if_asked<T: StepTable>(
     path: Option<&str>,
 ) -> Result<(), AllocError>
     ensures { OnOk result (map string_bytes paths.new.items ≡ map string_bytes paths.old.items
-        ++ texts.path_if_asked (rows_from Joining.Joined (T.steps table.now) from) path.entry) }
+        ++ rule.path_if_asked (rows_from Joining.Joined (T.steps table.now) from) path.entry) }
 {
     if let (Some(_), Some(path)) = (next_row(table, Joining::Joined, from), path) {
         paths.push(String::from_str(alloc, path)?)?;
@@ -66,38 +55,31 @@ fn paths_of(
     drives: &[Option<DriveFolder<'_>>; 4],
     run: &WholeRun<'_>,
 ) -> Result<Paths, AllocError>
-    ensures { IfOk result (ArePathsOf (map string_bytes targets.now)
+    ensures { IfOk result (λ paths. collected paths ≡ rule.needs_of (map string_bytes targets.now)
         words.now drives.now run.now.session.now run.now.looks) }
 {
     let (host, looks) = (run.session.files(), &run.looks);
     let asked = looks.files();
-    let mut program = Vec::new(alloc);
-    push_if_asked(
-        alloc,
-        &mut program,
-        looks.cells(),
-        PROGRAM_START,
-        Some(words.program),
-    )?;
-    remove_targets(&mut program, targets);
-    let mut others = Vec::new(alloc);
-    push_if_asked(alloc, &mut others, looks.offsets(), 0, words.console)?;
-    push_files(alloc, &mut others, asked, drives.as_slice())?;
-    push_folders(alloc, &mut others, asked, drives.as_slice())?;
-    push_absent_folders(alloc, &mut others, targets, host, asked, drives)?;
-    remove_targets(&mut others, targets);
-    let mut missing = Vec::new(alloc);
-    push_missing_files(alloc, &mut missing, targets, host, asked, drives)?;
-    Ok(Paths {
-        program,
-        others,
-        missing,
-    })
+    let mut paths = Paths {
+        program: Vec::new(alloc),
+        others: Vec::new(alloc),
+        missing: Vec::new(alloc),
+        comments: Vec::new(alloc),
+    };
+    let (cells, program) = (looks.cells(), Some(words.program));
+    push_if_asked(alloc, &mut paths.program, cells, PROGRAM_START, program)?;
+    remove_targets(&mut paths.program, targets);
+    push_if_asked(alloc, &mut paths.others, looks.offsets(), 0, words.console)?;
+    push_files(alloc, &mut paths.others, asked, drives.as_slice())?;
+    push_folders(alloc, &mut paths.others, asked, drives.as_slice())?;
+    push_absent_files(alloc, &mut paths, targets, host, asked, drives)?;
+    remove_targets(&mut paths.others, targets);
+    Ok(paths)
 }
 
 // Appends a call that make replaces by those of the paths that exist.
 fn push_call(text: &mut Vec<u8>, paths: &[String]) -> Result<(), AllocError>
-    ensures { OnOk result (text.new.items ≡ text.old.items ++ texts.call (map string_bytes paths.now)) }
+    ensures { OnOk result (text.new.items ≡ text.old.items ++ rule.call (map string_bytes paths.now)) }
 {
     if paths.is_empty() {
         return Ok(());
@@ -110,7 +92,7 @@ fn push_call(text: &mut Vec<u8>, paths: &[String]) -> Result<(), AllocError>
 // Appends targets, with a blank between two of them.
 fn push_targets(text: &mut Vec<u8>, targets: &[String]) -> Result<(), AllocError>
     ensures { OnOk result (text.new.items
-        ≡ text.old.items ++ texts.targets_text (map string_bytes targets.now)) }
+        ≡ text.old.items ++ rule.targets_text (map string_bytes targets.now)) }
 {
     let Some(first) = targets.first() else {
         return Ok(());
@@ -121,8 +103,8 @@ fn push_targets(text: &mut Vec<u8>, targets: &[String]) -> Result<(), AllocError
 
 // Appends the targets with the paths on which they depend.
 fn push_line(text: &mut Vec<u8>, targets: &[String], paths: &Paths) -> Result<(), AllocError>
-    ensures { OnOk result (text.new.items
-        ≡ text.old.items ++ line (line_of (map string_bytes targets.now) paths.now)) }
+    ensures { let n = collected paths.now in OnOk result (text.new.items ≡ text.old.items
+        ++ line (rule.rule_line (map string_bytes targets.now) (n.program ++ n.others) n.missing)) }
 {
     push_targets(text, targets)?;
     text.push(b':')?;
@@ -132,28 +114,21 @@ fn push_line(text: &mut Vec<u8>, targets: &[String], paths: &Paths) -> Result<()
     Ok(text.push(b'\n')?)
 }
 
-// Appends a path as a target that depends on nothing.
-fn push_empty_rule(text: &mut Vec<u8>, path: &str) -> Result<(), AllocError>
-    ensures { OnOk result (text.new.items ≡ text.old.items ++ texts.empty_rule path.now) }
-{
-    push_make_path(text, path.as_bytes())?;
-    text.extend_from_slice(b":\n")
-}
-
 // Appends paths as targets that depend on nothing.
 fn push_empty_rules(text: &mut Vec<u8>, paths: &[String]) -> Result<(), AllocError>
     ensures { OnOk result (text.new.items
-        ≡ text.old.items ++ flat_map texts.empty_rule (map string_bytes paths.now)) }
+        ≡ text.old.items ++ flat_map rule.empty_rule (map string_bytes paths.now)) }
 {
     for path in paths {
-        push_empty_rule(text, path.as_str())?;
+        push_make_path(text, path.as_bytes())?;
+        text.extend_from_slice(b":\n")?;
     }
     Ok(())
 }
 
 // Appends a comment about a stop other than WarmBoot.
 fn push_stop_comment(text: &mut Vec<u8>, cause: Cause) -> Result<(), AllocError>
-    ensures { OnOk result (text.new.items ≡ text.old.items ++ texts.stop_comment cause) }
+    ensures { OnOk result (text.new.items ≡ text.old.items ++ rule.stop_comment cause) }
 {
     if let Cause::WarmBoot = cause {
         return Ok(());
@@ -162,45 +137,10 @@ fn push_stop_comment(text: &mut Vec<u8>, cause: Cause) -> Result<(), AllocError>
     Ok(text.extend_from_slice(stop_line(cause).as_bytes())?)
 }
 
-/// Returns the rule for make with the files on which a run depends. After it comes each of these but the program as a target that
-/// depends on nothing, so that make goes on without the file; a comment about each file that was asked for and is not there; and a
-/// comment about a stop other than WarmBoot.
-///
-/// # Errors
-///
-/// Returns `Err` if an allocation fails.
-fn make_rule(
-    alloc: Global,
-    targets: &[String],
-    words: &SessionWords<'_>,
-    drives: &[Option<DriveFolder<'_>>; 4],
-    run: &WholeRun<'_>,
-) -> Result<Vec<u8>, AllocError>
-    requires targets { list_all is_carried (map string_bytes targets.now) ≡ true }
-    requires words { refuses_words words.now ≡ false }
-    requires drives { list_any is_refused_drive drives.now ≡ false }
-    ensures text { IfOk result (λ text. text.items ≡ texts.rule_text (map string_bytes targets.now)
-        words.now drives.now run.now.session.now run.now.looks run.now.cause) }
-    ensures read { IfOk result (λ _. texts.IsReadByMake (map string_bytes targets.now)
-        words.now drives.now run.now.session.now run.now.looks) }
-{
-    let paths = paths_of(alloc, targets, words, drives, run)?;
-    let mut text = Vec::new(alloc);
-    push_line(&mut text, targets, &paths)?;
-    push_empty_rules(&mut text, paths.others.as_slice())?;
-    push_absent_lines(
-        alloc,
-        &mut text,
-        run.session.files(),
-        run.looks.files(),
-        drives,
-    )?;
-    push_stop_comment(&mut text, run.cause)?;
-    Ok(text)
-}
-
 /// Returns the rule for make with these targets and the files on which the run of a session depends, by their names in the folders when
-/// the session was loaded. `check_paths` allowed the words, and a rule can have the targets.
+/// the session was loaded. After it comes each of these but the program as a target that depends on nothing, so that make goes on without
+/// the file; a comment about each file that was asked for and is not there; and a comment about a stop other than WarmBoot. `check_paths`
+/// allowed the words, and a rule can have the targets.
 ///
 /// # Errors
 ///
@@ -219,5 +159,11 @@ pub fn rule_of_run(
         IsRule words.now (map string_bytes targets.now) listings.now run.now.session.now text.items) }
 {
     let drives = DriveFolder::with_names(&words.files, listings);
-    make_rule(alloc, targets, words, &drives, run)
+    let paths = paths_of(alloc, targets, words, &drives, run)?;
+    let mut text = Vec::new(alloc);
+    push_line(&mut text, targets, &paths)?;
+    push_empty_rules(&mut text, paths.others.as_slice())?;
+    text.extend_from_slice(paths.comments.as_slice())?;
+    push_stop_comment(&mut text, run.cause)?;
+    Ok(text)
 }

@@ -3,6 +3,7 @@ use Rattle.std.specs.Prelude.{ℕ, zero, suc, ◌+◌, List, [], ◌∷◌, ◌+
 use Rattle.std.specs.List.{range_with_len}
 use Rattle.hex.specs.Hex.{encode_upper}
 use Rattle.i8080.specs.Opcodes.{restart_code, instructions, decoded}
+use Rattle.i8080.specs.Operands.{operand_count}
 use Rattle.i8080.specs.declared.opcode.Op.{Op}
 use Rattle.i8080.specs.declared.opcode.Op.TheVariants.{Nop, Hlt, Mov, MovToMemory, Mvi, Lxi, Lda, Sta, Lhld, Shld, Ldax, Stax, Xchg, Accumulate, Inr, Dcr, Inx, Dcx, Dad, Rotate, Daa, Cma, Stc, Cmc, Jmp, JumpIf, Call, CallIf, Ret, RetIf, Rst, Pchl, Push, Pop, Xthl, Sphl, In, Out, Di, Ei}
 use Rattle.i8080.specs.declared.opcode.Register.TheVariants.{B, C, D, E, H, L, A}
@@ -117,28 +118,6 @@ mnemonic Ei = codes "EI"
 -- The instruction with this text before its operand bytes, if there is one.
 unfoldable pub named : List ℕ → Option Op
 named text = find (λ op. bytes_eq (mnemonic op) text) instructions
-
--- How many operand bytes follow the opcode.
-abbrev pub operand_count : Op → ℕ
-operand_count (Mvi _) = 1
-operand_count (Accumulate _ Immediate) = 1
-operand_count In = 1
-operand_count Out = 1
-operand_count (Lxi _) = 2
-operand_count Lda = 2
-operand_count Sta = 2
-operand_count Lhld = 2
-operand_count Shld = 2
-operand_count Jmp = 2
-operand_count (JumpIf _) = 2
-operand_count Call = 2
-operand_count (CallIf _) = 2
-operand_count _ = 0
-
--- How many bytes an instruction has. An undefined byte is alone.
-abbrev pub byte_count : Option Op → ℕ
-byte_count None = 1
-byte_count (Some op) = 1 + operand_count op
 
 -- The two digits of a byte.
 abbrev pub digits : ℕ → List ℕ

@@ -9,8 +9,7 @@ ghost use Rattle.mnemonics.specs.Mnemonics.{instruction_text, mnemonic, named};
 ghost use Rattle.streams.specs.Pushing.{more};
 
 use arrayvec::ArrayString;
-use i8080::decode;
-use i8080::opcode::{Op, Source};
+use i8080::{decode, operand_count};
 use streams::Text;
 
 // The text before the operand for each opcode, in order.
@@ -49,30 +48,6 @@ fn entry(table: &'static [&'static str; 256], opcode: u8) -> &'static str
     ensures { result.now ≡ spec.opening_text (decoded opcode) }
 {
     table[usize::from(opcode)]
-}
-
-/// Returns how many operand bytes follow the opcode of this instruction. [8080 manual 1975, chapter 4, instruction set]
-pub fn operand_count(op: Op) -> usize
-    ensures { result ≡ spec.operand_count op }
-{
-    match op {
-        Op::Mvi(_) | Op::Accumulate(_, Source::Immediate) | Op::In | Op::Out => 1,
-        Op::Lxi(_) | Op::Lda | Op::Sta | Op::Lhld | Op::Shld => 2,
-        Op::Jmp | Op::JumpIf(_) | Op::Call | Op::CallIf(_) => 2,
-        _ => 0,
-    }
-}
-
-/// Returns how many bytes the instruction with this opcode has, 1 to 3, or 1 for an undefined byte.
-/// [8080 manual 1975, chapter 4, instruction set]
-pub fn byte_count(opcode: u8) -> usize
-    ensures count { result ≡ spec.byte_count (decoded opcode) }
-    ensures range { (1 ≤ result) × (result ≤ 3) }
-{
-    match decode(opcode) {
-        None => 1,
-        Some(op) => 1 + operand_count(op),
-    }
 }
 
 // Returns a digit in upper case.

@@ -10,7 +10,7 @@ ghost use Rattle.hostfiles.specs.Files.{files};
 ghost use Rattle.machine.specs.ChangedFiles.{changed_keys_in};
 ghost use Rattle.plan.specs.Faults.{IsAnyWriteFault};
 ghost use Rattle.plan.specs.Wanted.{expected_of, wanted_of};
-ghost use Rattle.one_run.specs.Planned as texts;
+ghost use Rattle.one_run.specs.Planned as planned;
 
 use folders::{Failure, FileSystem, Places, Written};
 use hostfiles::{ChangedFile, HostFiles, Journal, Name, next_changed};
@@ -44,7 +44,7 @@ pub struct Changes<'a> {
 
 // Returns whether this is the turn of a file that is there or gone, by what is expected at its path.
 fn is_turn(turn: Turn, there: bool, before: &Before<'_>) -> bool
-    ensures { result ≡ texts.is_turn turn there (expected_of before.now) }
+    ensures { result ≡ planned.is_turn turn there (expected_of before.now) }
 {
     match (turn, there, before) {
         (Turn::Outside, true, Before::Any) => true,
@@ -58,7 +58,7 @@ fn is_turn(turn: Turn, there: bool, before: &Before<'_>) -> bool
 impl<'a> Changes<'a> {
     /// Returns the same changes, without the places of disks if these are left as they were.
     pub fn at(&self, changes_disks: bool) -> Changes<'a>
-        ensures places { result.places ≡ texts.places_at changes_disks self.now.places }
+        ensures places { result.places ≡ planned.places_at changes_disks self.now.places }
         ensures host { result.host ≡ self.now.host }
         ensures journal { result.journal ≡ self.now.journal }
     {
@@ -76,7 +76,7 @@ impl<'a> Changes<'a> {
 
     // Returns what is expected at the path of a file: on a disk what was loaded from there.
     fn before(&self, name: &Name) -> Before<'a>
-        ensures { expected_of result ≡ texts.expected_at self.now.places self.now.host.now name.now }
+        ensures { expected_of result ≡ planned.expected_at self.now.places self.now.host.now name.now }
     {
         if !self.places.has_disk(name.drive()) {
             return Before::Any;
@@ -90,7 +90,7 @@ impl<'a> Changes<'a> {
     // Returns the path of a file that is there, or from which one that is gone is removed.
     fn path_of(&self, alloc: Global, name: &Name, there: bool) -> Result<Option<String>, Failure>
         ensures path { IfOk result
-            (λ path. option_map string_bytes path ≡ texts.path_for self.now.places there name.now) }
+            (λ path. option_map string_bytes path ≡ planned.path_for self.now.places there name.now) }
         ensures fault { IfErr result (λ failure. failure ≡ Failure.OutOfMemory) }
     {
         let path = if there {
@@ -114,7 +114,7 @@ impl<'a> Changes<'a> {
     ) -> Result<(), Failure>
         ensures planned { OnOk result (map (wanted_of written_bytes) plan.new.deeds.items
             ≡ map (wanted_of written_bytes) plan.old.deeds.items
-            ++ texts.planned_for turn self.now.places self.now.host.now (is_view_there changed.now.file)
+            ++ planned.planned_for turn self.now.places self.now.host.now (is_view_there changed.now.file)
             (file_bytes changed.now.file) changed.now.name) }
         ensures fault { IfErr result (FailsBy IsAnyWriteFault) }
         ensures unchanged { KeepsFiles failure_paths result (S.files system.old) (S.files system.new) }
@@ -146,7 +146,7 @@ impl<'a> Changes<'a> {
     ) -> Result<(), Failure>
         ensures planned { OnOk result (map (wanted_of written_bytes) plan.new.deeds.items
             ≡ map (wanted_of written_bytes) plan.old.deeds.items
-            ++ texts.planned turn self.now.places self.now.host.now
+            ++ planned.planned turn self.now.places self.now.host.now
             (files self.now.host.now self.now.journal.now.entries)) }
         ensures fault { IfErr result (FailsBy IsAnyWriteFault) }
         ensures unchanged { KeepsFiles failure_paths result (S.files system.old) (S.files system.new) }
@@ -161,7 +161,7 @@ impl<'a> Changes<'a> {
 
     /// Returns whether something is to be done on a disk.
     pub fn changes_disk(&self) -> bool
-        ensures { result ≡ list_any (texts.is_on_disk self.now.places) (changed_keys_in self.now.host.now
+        ensures { result ≡ list_any (planned.is_on_disk self.now.places) (changed_keys_in self.now.host.now
             (files self.now.host.now self.now.journal.now.entries)) }
     {
         let mut after: Option<Name> = None;

@@ -4,7 +4,7 @@ ghost use Rattle.std.specs.Prelude.{◌≡◌};
 ghost use Rattle.hostfiles.specs.Files.{files};
 ghost use Rattle.hostfiles.specs.FileView.{is_view_there};
 ghost use Rattle.streams.specs.Pushing.{more};
-ghost use Rattle.streams.specs.Streams.{WritesOrFails, WritesText};
+ghost use Rattle.streams.specs.Streams.{WritesOrFails};
 ghost use Rattle.one_run.specs.RunTexts.{stop_lines, stop_status, unplaced_line, unplaced_lines};
 
 use crate::planning::Changes;
@@ -12,7 +12,7 @@ use folders::Places;
 use hostfiles::{ChangedFile, Name, next_changed};
 use machine::Cause;
 use report_lines::{FileFilter, push_changed_files, push_named, stop_line};
-use streams::{Failed, Text, TextOver, Writer};
+use streams::{Text, TextOver, Writer};
 
 /// Returns the exit status for a run that stopped by this cause.
 pub fn stop_status(cause: Cause) -> u8
@@ -71,23 +71,6 @@ fn push_stop<X: Text>(text: &mut X, cause: Cause, changes: &Changes<'_>, changes
     }
 }
 
-// Writes these lines.
-fn write_stop<E: Writer>(
-    cause: Cause,
-    changes: &Changes<'_>,
-    changes_disks: bool,
-    err: &mut E,
-) -> Result<(), Failed>
-    ensures { WritesText (E.output err.old) (E.output err.new)
-        (stop_lines changes.now.places changes_disks cause changes.now.host.now
-        (files changes.now.host.now changes.now.journal.now.entries)) result }
-{
-    let mut text = TextOver::new(err);
-    push_stop(&mut text, cause, changes, changes_disks);
-    text.flush();
-    text.finish()
-}
-
 /// Reports on standard error why a run stopped, whether the disks were left as they were, which of the changed files are gone, and which
 /// were not written. The changes have the places of the disks also if these were left as they were. A failure of the writer ends this, and is
 /// ignored.
@@ -96,5 +79,8 @@ pub fn report_stop<E: Writer>(cause: Cause, changes: &Changes<'_>, changes_disks
         (stop_lines changes.now.places changes_disks cause changes.now.host.now
         (files changes.now.host.now changes.now.journal.now.entries)) }
 {
-    let _ = write_stop(cause, changes, changes_disks, err);
+    let mut text = TextOver::new(err);
+    push_stop(&mut text, cause, changes, changes_disks);
+    text.flush();
+    let _ = text.finish();
 }

@@ -1,8 +1,11 @@
 -- The byte of a known cell, if it is returned.
-use Rattle.std.proofs.Common.{◌≡◌, ◌<◌, ◌+◌, ◌∙◌, subst, arith, Option, Some, None, IfSome, true, ℕ}
+use Rattle.std.proofs.Common.{◌≡◌, ◌<◌, ◌+◌, ◌∙◌, ap, sym, refl, subst, arith, Option, Some, None, IfSome, true, ℕ}
 use Rattle.i8080.specs.Memory.{look, over}
-use Rattle.i8080.specs.Registers.{onward}
-use Rattle.pagemem.specs.Overlay.{own_of, looks_of, beneath_of}
+use Rattle.i8080.specs.Registers.{onward, word}
+use Rattle.i8080.specs.Reading.{Cell, Done}
+use Rattle.i8080.specs.Instruction.{word_at}
+use Rattle.i8080.specs.Performs.{Reads}
+use Rattle.pagemem.specs.Overlay.{own_of, looks_of, beneath_of, memory_of}
 use Rattle.pagemem.specs.Known.{is_known, byte_in}
 use Rattle.pagemem.specs.declared.overlay.Overlay.{Overlay}
 use Rattle.pagemem.proofs.KnownLemmas.{look_seen}
@@ -21,3 +24,23 @@ unlooked o a None k = tt
 pub unlooked_next : (o : Overlay) (a : ℕ) (r : Option ℕ) → IfSome r (λ _. a < 65535) → IfSome r (λ _. is_known o.known (a + 1) ≡ true) → IfSome r (λ _. look (own_of o) (looks_of o) (onward a 1) ≡ looks_of o)
 unlooked_next o a (Some v) i k = subst (λ (q : ℕ). look (own_of o) (looks_of o) q ≡ looks_of o) (omega (arith, i)) (look_seen (own_of o) (looks_of o) (a + 1) (o.agrees (a + 1) k).seen)
 unlooked_next o a None i k = tt
+
+-- A read of a known cell, and of two, returns what is kept for them and adds no look.
+module _ (o : Overlay) (a : ℕ) (known : is_known o.known a ≡ true) where
+  quiet : (q : ℕ) → a ≡ q → look (own_of o) (looks_of o) q ≡ looks_of o
+  quiet q e = subst (λ (c : ℕ). look (own_of o) (looks_of o) c ≡ looks_of o) e (look_seen (own_of o) (looks_of o) a (o.agrees a known).seen)
+
+  kept : (q : ℕ) → a ≡ q → byte_in o.known a ≡ over (own_of o) (beneath_of o) q
+  kept q e = (o.agrees a known).value ∙ ap (over (own_of o) (beneath_of o)) e
+
+  pub reads_known : (q : ℕ) → a ≡ q → Reads (Cell q Done) (memory_of o) (byte_in o.known a) (memory_of o)
+  reads_known q e = record { value = kept q e; looks = sym (quiet q e); own = refl; beneath = refl; lender = refl }
+
+pub reads_known_word : (o : Overlay) (a b q : ℕ) → is_known o.known a ≡ true → is_known o.known b ≡ true → a ≡ q → b ≡ onward q 1 → Reads (word_at q Done) (memory_of o) (word (byte_in o.known a) (byte_in o.known b)) (memory_of o)
+reads_known_word o a b q low high e f = record {
+  value = ap (λ v. word v (byte_in o.known b)) (kept o a low q e) ∙ ap (word (over (own_of o) (beneath_of o) q)) (kept o b high (onward q 1) f);
+  looks = sym (ap (λ l. look (own_of o) l (onward q 1)) (quiet o a low q e) ∙ quiet o b high (onward q 1) f);
+  own = refl;
+  beneath = refl;
+  lender = refl;
+}

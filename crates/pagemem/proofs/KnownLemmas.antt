@@ -55,8 +55,8 @@ module _ (own : Own) (beneath : ℕ → ℕ) (looks : Looks) (was is : ℕ → B
       → (q : ℕ) → IsTrue (is q) → IsKnownCell (write own a v) beneath looks q (new q)
   unfolding write
   known_by_write a v marks bytes q h = elim (eqb_tells q a) [
-    | inl same ↦ rw (bytes q, same.0) (record { value = rw same.0 refl; seen = rw same.0 refl })
-    | inr other ↦ let k = known q (sym (marks q ∙ rw other.0 refl) ∙ h) in rw (bytes q, other.0) (record { value = rw other.0 k.value; seen = rw other.0 k.seen })
+    | inl same ↦ rw (bytes q, same.0) (record { value = refl; seen = refl })
+    | inr other ↦ rw (bytes q, other.0) (known q (sym (marks q ∙ rw other.0 refl) ∙ h))
   ]
 
   -- After writes of consecutive cells, which are then known.
@@ -105,9 +105,9 @@ known_written own beneath looks q byte none k = sym (right (is_some (own q))) �
   right true = refl
   right false = refl
 
--- A read of a cell that was written or looked at adds no look.
-pub laid_unlooked : (own : Own) (looks : Looks) (q beneath byte : ℕ) (mark : Bool) → mark ≡ is_among q looks → IsLaid (own q) beneath mark byte → look own looks q ≡ looks
-laid_unlooked own looks q beneath byte mark e w = look_seen own looks q (ap (λ b. is_some (own q) || b) (sym e) ∙ w.known)
+-- A byte that is laid over a cell is the byte of a known cell.
+pub laid_known : (own : Own) (beneath : ℕ → ℕ) (looks : Looks) (q below byte : ℕ) (mark : Bool) → mark ≡ is_among q looks → below ≡ beneath q → IsLaid (own q) below mark byte → IsKnownCell own beneath looks q byte
+laid_known own beneath looks q below byte mark e f w = record { value = w.value ∙ ap (unwrap_or (own q)) f; seen = ap (λ b. is_some (own q) || b) (sym e) ∙ w.seen }
 
 -- The cell of a read is seen after it.
 pub seen_after : (own own' : Own) (looks looks' : Looks) (a : ℕ) → own' ≡ own → looks' ≡ look own looks a → (is_some (own' a) || is_among a looks') ≡ true

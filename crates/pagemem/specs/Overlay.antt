@@ -1,6 +1,8 @@
 -- What contracts see of an overlay. (This project's own.)
-use Rattle.std.specs.Prelude.{ℕ, Bool}
-use Rattle.i8080.specs.Memory.{Own, Looks}
+use Rattle.std.specs.Prelude.{ℕ, Bool, None}
+use Rattle.i8080.specs.Memory.{Memory, Own, Looks}
+use Rattle.pagemem.specs.declared.image.Image.{Image}
+use Rattle.pagemem.specs.ImageView.{cells_of}
 use Rattle.pagemem.specs.declared.overlay.Overlay.{Overlay}
 use Rattle.pagemem.specs.Cells.{own_in, is_ready_in}
 use Rattle.pagemem.specs.Beneath.{cells_beneath}
@@ -20,3 +22,11 @@ is_ready_at o = is_ready_in o.cells
 -- The byte of each cell of the image that the known cells belong to.
 abbrev pub beneath_of : Overlay → ℕ → ℕ
 beneath_of o = cells_beneath o.beneath
+
+-- The memory that these are the parts of, over the image that the known cells belong to.
+abbrev pub memory_of : Overlay → Memory
+memory_of o = record { own = own_of o; beneath = beneath_of o; looks = looks_of o; lender = None }
+
+-- The same over any image.
+abbrev pub memory_over : Image → Overlay → Memory
+memory_over image o = record (memory_of o) { beneath = cells_of image }

@@ -28,6 +28,7 @@ impl Cells {
 
     /// Makes the page of a cell owned, so that the cell may be written. No byte changes. `Err` means out of memory; the cell was
     /// then not ready, and nothing has changed.
+    #[tactic(auto, using(crate::proofs::Laws::one_slot_owned))]
     #[inline(always)]
     pub fn ready(&mut self, a: u16) -> Result<(), AllocError>
         ensures ready { OnOk result (IsTrue (is_ready_in self.new a)) }
@@ -36,8 +37,8 @@ impl Cells {
         ensures kept { (q : ℕ) → IsTrue (is_ready_in self.old q) → IsTrue (is_ready_in self.new q) }
         ensures own { own_in self.new ≡ own_in self.old }
     {
-        let alloc = self.alloc;
-        make_ready(&mut self.slots, (a / 256) as usize, alloc)
+        let slot = &mut self.slots[(a / 256) as usize];
+        slot.make_owned(self.alloc)
     }
 
     /// Returns whether a cell may be written.
@@ -157,22 +158,6 @@ impl Cells {
             alloc: self.alloc,
         })
     }
-}
-
-// Makes one slot owned.
-#[tactic(auto, using(crate::proofs::Laws::one_slot_owned))]
-#[inline(always)]
-fn make_ready(slots: &mut Vec<Slot>, at: usize, alloc: Global) -> Result<(), AllocError>
-    requires { at < vec_len slots.old }
-    ensures len { vec_len slots.new ≡ vec_len slots.old }
-    ensures ready { OnOk result (IsTrue (is_owned_at slots.new.items at)) }
-    ensures err { OnErr result (ready_at slots.new.items ≡ ready_at slots.old.items) }
-    ensures refused { OnErr result (is_owned_at slots.old.items at ≡ false) }
-    ensures kept { (q : ℕ) → IsTrue (ready_at slots.old.items q) → IsTrue (ready_at slots.new.items q) }
-    ensures own { own_at slots.new.items ≡ own_at slots.old.items }
-{
-    let slot = &mut slots[at];
-    slot.make_owned(alloc)
 }
 
 // Makes one slot shared if its page is owned.

@@ -1,12 +1,14 @@
 ghost use Rattle.std.specs.Prelude.{◌≡◌, ◌==◌, ◌+◌, ◌*◌, ◌<◌, ◌≤◌, ◌⊎◌, ℕ, true, false, if◌then◌else◌, IfOk, IfSome, length, vec_len, slice_index, get_or};
 ghost use Rattle.pagemem.specs.Learned.{IsLearned};
 ghost use Rattle.i8080.specs.Registers.{word};
-ghost use Rattle.i8080.specs.Attempts.{IsKept};
+ghost use Rattle.i8080.specs.Attempts.{AreReadable, IsKept};
+ghost use Rattle.i8080.specs.Opcodes.{decoded};
+ghost use Rattle.i8080.specs.Operands.{byte_count};
 ghost use Rattle.i8080.specs.declared.access.TheConstants.{HLT};
 
 use crate::looks::{CELLS, blank_marks};
 use crate::page::all_set;
-use i8080::{HLT, word_of};
+use i8080::{HLT, byte_count, word_of};
 use std::alloc::{AllocError, Global};
 
 /// One cell more than memory has, which is never known: the byte after the last cell is not the high byte of a word here.
@@ -16,10 +18,11 @@ const CELLS_AND_END: usize = CELLS + 1;
 const BOTH_MARKED: u16 = 0x0101;
 
 /// The first cell of the system area, where no opcode is learned.
-const SYSTEM_AREA: u16 = 0xfe00;
+pub const SYSTEM_AREA: u16 = 0xfe00;
 
 /// The bytes of the known cells. A read of a known cell returns its byte and is no new look, so that it needs neither the pages
-/// nor the looks. A learned opcode is the byte of a known cell below the system area at which an instruction began.
+/// nor the looks. A learned opcode is the byte of a cell below the system area at which an instruction began, each byte of which is
+/// known: its operand is read without a test.
 #[derive(Drop)]
 pub struct Known {
     marks: Vec<bool>,
@@ -30,12 +33,12 @@ pub struct Known {
     ghost all_opcodes: { vec_len opcodes ≡ 65536 },
     ghost end: { get_or marks.items 65536 false ≡ false },
     ghost learned: { (q : ℕ) → IsKept (get_or opcodes.items q HLT)
-        → IsLearned (get_or marks.items q false) (slice_index bytes.items q) q
+        → IsLearned (λ cell. get_or marks.items cell false) (slice_index bytes.items q) q
         (get_or opcodes.items q HLT) },
 }
 
 impl Known {
-    ghost use Rattle.pagemem.specs.Known.{is_known, byte_in, opcode_in};
+    ghost use Rattle.pagemem.specs.Known.{is_known, byte_in, opcode_in, IsWholeAt};
 
     /// Creates a set with no cells. `Err` means out of memory.
     pub fn new(alloc: Global) -> Result<Known, AllocError>
@@ -51,24 +54,24 @@ impl Known {
         })
     }
 
-    /// Creates a set with no cells, with the same allocator. `Err` means out of memory.
-    pub fn cleared(&self) -> Result<Known, AllocError>
-        ensures { IfOk result (λ k. (q : ℕ) → is_known k q ≡ false) }
-    {
-        Known::new(*self.marks.allocator())
-    }
-
     /// Returns the byte of a cell, or `None` if the cell is not known.
     #[inline(always)]
     pub fn get(&self, a: u16) -> Option<u8>
         ensures known { IfSome result (λ _. is_known self.now a ≡ true) }
         ensures byte { IfSome result (λ v. v ≡ byte_in self.now a) }
     {
-        let at = a as usize;
-        if self.marks[at] {
-            return Some(self.bytes[at]);
+        if self.marks[a as usize] {
+            return Some(self.byte(a));
         }
         None
+    }
+
+    // Returns the byte that is kept for a cell.
+    #[inline(always)]
+    fn byte(&self, a: u16) -> u8
+        ensures { result ≡ byte_in self.now a }
+    {
+        self.bytes[a as usize]
     }
 
     /// Returns the word at an address, low byte first, if both of its cells are known. The word at 0FFFFH is not returned.
@@ -88,6 +91,27 @@ impl Known {
         None
     }
 
+    /// Returns the byte after a cell, if both are known.
+    #[inline(always)]
+    pub fn byte_after(&self, a: u16) -> u8
+        requires { AreReadable (is_known self.now) a 2 }
+        ensures inside { a < 65535 }
+        ensures byte { result ≡ byte_in self.now (a + 1) }
+    {
+        self.bytes[a as usize + 1]
+    }
+
+    /// Returns the word after a cell, low byte first, if all three are known.
+    #[inline(always)]
+    pub fn word_after(&self, a: u16) -> u16
+        requires { AreReadable (is_known self.now) a 3 }
+        ensures inside { a < 65534 }
+        ensures word { result ≡ word (byte_in self.now (a + 1)) (byte_in self.now (a + 2)) }
+    {
+        let at = a as usize;
+        word_of(self.bytes[at + 1], self.bytes[at + 2])
+    }
+
     /// Copies the bytes of consecutive cells, starting at `at`, if all of them are known. Returns `false` otherwise; the bytes in
     /// `cells` are then unspecified.
     #[inline(always)]
@@ -99,12 +123,21 @@ impl Known {
             → slice_index cells.new i ≡ byte_in self.now (at + i) }
     {
         let from = usize::from(at);
-        let end = from + cells.len();
-        if !all_set(&self.marks[from..end]) {
+        if !self.are_known(from, cells.len()) {
             return false;
         }
-        cells.copy_from_slice(&self.bytes[from..end]);
+        cells.copy_from_slice(&self.bytes[from..from + cells.len()]);
         true
+    }
+
+    // Returns whether each of consecutive cells is known.
+    #[inline(always)]
+    fn are_known(&self, from: usize, count: usize) -> bool
+        requires { from + count ≤ 65536 }
+        ensures known { result ≡ true → AreReadable (is_known self.now) from count }
+        ensures unknown { AreReadable (is_known self.now) from count → result ≡ true }
+    {
+        all_set(&self.marks[from..from + count])
     }
 
     /// Returns the learned opcode of a cell, or HLT if it has none.
@@ -112,22 +145,24 @@ impl Known {
     pub fn opcode(&self, a: u16) -> u8
         ensures kept { result ≡ opcode_in self.now a }
         ensures known { IsKept result → is_known self.now a ≡ true }
+        ensures operand { IsKept result → AreReadable (is_known self.now) a (byte_count (decoded result)) }
         ensures byte { IsKept result → result ≡ byte_in self.now a }
-        ensures low { IsKept result → a < 65024 }
+        ensures low { IsKept result → a < SYSTEM_AREA }
     {
         self.opcodes[a as usize]
     }
 
-    /// Learns the byte of a cell as an opcode, if the cell is known and below the system area.
+    /// Learns the byte of a cell as an opcode, if each byte of the instruction is known and the cell is below the system area.
     #[inline(always)]
     pub fn learn_opcode(&mut self, a: u16)
         ensures marks { (q : ℕ) → is_known self.new q ≡ is_known self.old q }
         ensures bytes { (q : ℕ) → byte_in self.new q ≡ byte_in self.old q }
-        ensures learned { is_known self.old a ≡ true → a < 65024 → opcode_in self.new a ≡ byte_in self.old a }
+        ensures learned { IsWholeAt self.old a → a < SYSTEM_AREA
+            → opcode_in self.new a ≡ byte_in self.old a }
     {
-        let at = a as usize;
-        if a < SYSTEM_AREA && self.marks[at] {
-            self.opcodes[at] = self.bytes[at];
+        let byte = self.byte(a);
+        if a < SYSTEM_AREA && self.are_known(a as usize, byte_count(byte)) {
+            self.opcodes[a as usize] = byte;
         }
     }
 
@@ -159,15 +194,12 @@ impl Known {
     }
 
     /// Removes a cell.
-    #[tactic(auto, using(crate::proofs::Laws::set_read))]
     #[inline(always)]
     pub fn remove(&mut self, a: u16)
         ensures marks { (q : ℕ) → is_known self.new q ≡ (if q == a then false else is_known self.old q) }
         ensures bytes { (q : ℕ) → byte_in self.new q ≡ byte_in self.old q }
     {
-        let at = a as usize;
-        self.marks[at] = false;
-        self.opcodes[at] = HLT;
+        self.remove_cells(a as usize, 1);
     }
 
     /// Removes the cells of a page.
@@ -177,9 +209,22 @@ impl Known {
         ensures gone { (q : ℕ) → is_known self.new q ≡ true → (q < 256 * page) ⊎ (256 * page + 256 ≤ q) }
         ensures bytes { (q : ℕ) → byte_in self.new q ≡ byte_in self.old q }
     {
-        let from = 256 * page;
-        mark_cells(&mut self.marks, from, 256, false);
-        clear_cells(&mut self.opcodes, from, 256);
+        self.remove_cells(256 * page, 256);
+    }
+
+    // Removes consecutive cells, and the opcodes of the instructions that they may belong to.
+    #[inline(always)]
+    fn remove_cells(&mut self, from: usize, count: usize)
+        requires { from + count ≤ 65536 }
+        ensures removed { (i : ℕ) → i < count → is_known self.new (from + i) ≡ false }
+        ensures kept { (q : ℕ) → (q < from) ⊎ (from + count ≤ q)
+            → is_known self.new q ≡ is_known self.old q }
+        ensures bytes { (q : ℕ) → byte_in self.new q ≡ byte_in self.old q }
+    {
+        mark_cells(&mut self.marks, from, count, false);
+        // An instruction has at most three bytes.
+        let first = from.saturating_sub(2);
+        clear_cells(&mut self.opcodes, first, from + count - first);
     }
 }
 

@@ -1,6 +1,7 @@
-ghost use Rattle.std.specs.Prelude.{◌≡◌, ℕ, Bool, false, None};
-ghost use Rattle.i8080.specs.Memory.{Memory};
-ghost use Rattle.pagemem.specs.Overlay.{own_of, looks_of, is_ready_at, beneath_of};
+ghost use Rattle.std.specs.Prelude.{ℕ, Bool, false};
+ghost use Rattle.pagemem.specs.Known.{is_known};
+ghost use Rattle.pagemem.specs.Overlay.{is_ready_at, memory_of};
+ghost use Rattle.pagemem.specs.declared.known.TheConstants.{SYSTEM_AREA};
 
 use crate::overlay::Overlay;
 use i8080::Access;
@@ -13,18 +14,15 @@ pub struct Refused;
 impl Access for Overlay {
     type Refusal = Refused;
 
-    ghost memory = { λ o. record {
-      own = own_of o;
-      beneath = beneath_of o;
-      looks = looks_of o;
-      lender = None;
-    } };
+    ghost memory = { λ o. memory_of o };
 
     ghost is_ready = { λ o. is_ready_at o };
 
     ghost is_sure = { false };
 
-    ghost opcode_limit = { 65024 };
+    ghost is_readable = { λ o. is_known o.known };
+
+    ghost opcode_limit = { SYSTEM_AREA };
 
     #[inline(always)]
     fn make_ready(&mut self, a: u16) -> Result<(), Refused> {
@@ -36,10 +34,7 @@ impl Access for Overlay {
 
     #[inline(always)]
     fn try_read(&mut self, a: u16) -> Result<u8, Refused> {
-        match self.known(a) {
-            Some(byte) => Ok(byte),
-            None => Err(Refused),
-        }
+        self.known(a).ok_or(Refused)
     }
 
     #[inline(always)]
@@ -48,11 +43,18 @@ impl Access for Overlay {
     }
 
     #[inline(always)]
+    fn operand(&mut self, pc: u16) -> u8 {
+        self.known.byte_after(pc)
+    }
+
+    #[inline(always)]
+    fn operand_word(&mut self, pc: u16) -> u16 {
+        self.known.word_after(pc)
+    }
+
+    #[inline(always)]
     fn try_word(&mut self, a: u16) -> Result<u16, Refused> {
-        match self.known_word(a) {
-            Some(word) => Ok(word),
-            None => Err(Refused),
-        }
+        self.known_word(a).ok_or(Refused)
     }
 
     #[inline(always)]

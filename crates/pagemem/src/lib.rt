@@ -26,6 +26,7 @@ pub use agreement::memories_agree;
 pub use beneath::Beneath;
 pub use cells::Cells;
 pub use image::Image;
+pub use known::SYSTEM_AREA;
 pub use known_access::Refused;
 pub use overlay::{BlankMarks, Overlay};
 pub use plain::PlainMemory;

@@ -1,18 +1,20 @@
 ghost use Rattle.std.specs.Prelude.{◌≡◌, true, false, ◌<◌, ◌≤◌, ◌+◌, ◌*◌, ◌⊎◌, ◌%◌, ◌∷◌, ◌++◌, [], ℕ, IsTrue, IfOk, OnOk, OnErr};
 ghost use Rattle.std.specs.Prelude.{IfNone, IfSome, None, Some, length, slice_index, is_some};
 ghost use Rattle.i8080.specs.End.{cells_from};
-ghost use Rattle.i8080.specs.Instruction.{one_word};
-ghost use Rattle.i8080.specs.Memory.{bytes, look, write, write_all, is_among, over};
+ghost use Rattle.i8080.specs.Instruction.{one_byte, one_word};
+ghost use Rattle.i8080.specs.Memory.{bytes, look, with_look, with_writes, is_among, over};
 ghost use Rattle.i8080.specs.Registers.{onward, word};
 ghost use Rattle.pagemem.specs.Cells.{own_in, is_ready_in};
-ghost use Rattle.i8080.specs.Attempts.{IsKept};
-ghost use Rattle.pagemem.specs.Known.{is_known, byte_in, opcode_in, IsKnownCell};
+ghost use Rattle.i8080.specs.Attempts.{AreReadable, IsKept};
+ghost use Rattle.i8080.specs.Opcodes.{decoded};
+ghost use Rattle.i8080.specs.Operands.{byte_count};
+ghost use Rattle.pagemem.specs.Known.{is_known, byte_in, opcode_in, AreKnownCells, IsKnownCell, IsWholeAt};
 ghost use Rattle.pagemem.specs.Beneath.{cells_beneath};
 
 use crate::beneath::Beneath;
 use crate::cells::Cells;
 use crate::image::Image;
-use crate::known::Known;
+use crate::known::{Known, SYSTEM_AREA};
 use crate::looks::Looks;
 use std::alloc::{AllocError, Global};
 
@@ -21,7 +23,7 @@ use std::alloc::{AllocError, Global};
 pub struct Overlay {
     cells: Cells,
     looks: Looks,
-    known: Known,
+    pub(crate) known: Known,
     beneath: Beneath,
     ghost agrees: { (q : ℕ) → IsTrue (is_known known q)
         → IsKnownCell (own_in cells) (cells_beneath beneath) looks q (byte_in known q) },
@@ -48,7 +50,7 @@ impl BlankMarks {
 
 impl Overlay {
     ghost use Rattle.pagemem.specs.ImageView.{cells_of};
-    ghost use Rattle.pagemem.specs.Overlay.{own_of, looks_of, is_ready_at, beneath_of};
+    ghost use Rattle.pagemem.specs.Overlay.{own_of, looks_of, is_ready_at, beneath_of, memory_of, memory_over};
 
     /// Creates an overlay with nothing written and no looks. `Err` means out of memory.
     pub fn new(alloc: Global) -> Result<Overlay, AllocError>
@@ -108,8 +110,7 @@ impl Overlay {
     pub fn shared_cells(&mut self) -> Result<Cells, AllocError>
         ensures cells { IfOk result (λ c. own_in c ≡ own_of self.old) }
         ensures shared { IfOk result (λ c. (q : ℕ) → is_ready_in c q ≡ false) }
-        ensures own { own_of self.new ≡ own_of self.old }
-        ensures looks { looks_of self.new ≡ looks_of self.old }
+        ensures memory { memory_of self.new ≡ memory_of self.old }
         ensures beneath { self.new.beneath ≡ self.old.beneath }
     {
         self.share()?;
@@ -124,9 +125,7 @@ impl Overlay {
         ensures err { OnErr result (is_ready_at self.new ≡ is_ready_at self.old) }
         ensures refused { OnErr result (is_ready_at self.old a ≡ false) }
         ensures kept { (q : ℕ) → IsTrue (is_ready_at self.old q) → IsTrue (is_ready_at self.new q) }
-        ensures own { own_of self.new ≡ own_of self.old }
-        ensures looks { looks_of self.new ≡ looks_of self.old }
-        ensures beneath { beneath_of self.new ≡ beneath_of self.old }
+        ensures memory { memory_of self.new ≡ memory_of self.old }
     {
         self.cells.ready(a)
     }
@@ -159,9 +158,7 @@ impl Overlay {
     pub fn read(&mut self, image: Image<'_>, a: u16) -> u8
         ensures value { result ≡ over (own_of self.old) (cells_of image.entry) a }
         ensures kept { (q : ℕ) → IsTrue (is_ready_at self.old q) → IsTrue (is_ready_at self.new q) }
-        ensures own { own_of self.new ≡ own_of self.old }
-        ensures looks { looks_of self.new ≡ look (own_of self.old) (looks_of self.old) a }
-        ensures beneath { beneath_of self.new ≡ beneath_of self.old }
+        ensures memory { memory_of self.new ≡ with_look a (memory_of self.old) }
     {
         match self.cells.written(a) {
             Some(value) => value,
@@ -178,17 +175,14 @@ impl Overlay {
         requires { beneath_of self.old ≡ cells_of image }
         ensures value { result ≡ over (own_of self.old) (cells_of image.entry) a }
         ensures kept { (q : ℕ) → IsTrue (is_ready_at self.old q) → IsTrue (is_ready_at self.new q) }
-        ensures own { own_of self.new ≡ own_of self.old }
-        ensures looks { looks_of self.new ≡ look (own_of self.old) (looks_of self.old) a }
-        ensures beneath { beneath_of self.new ≡ beneath_of self.old }
+        ensures memory { memory_of self.new ≡ with_look a (memory_of self.old) }
     {
         let byte = self.read(image, a);
         self.known.set(a, byte);
         byte
     }
 
-    /// Returns the byte of a cell over the image that the known cells belong to, or `None` if the cell is not known. This is no
-    /// new look.
+    /// Returns the byte of a cell, or `None` if the cell is not known. This is no new look.
     #[inline(always)]
     pub fn known(&self, a: u16) -> Option<u8>
         ensures value { IfSome result (λ v. v ≡ over (own_of self.now) (beneath_of self.now) a) }
@@ -198,34 +192,35 @@ impl Overlay {
         self.known.get(a)
     }
 
-    /// Returns the learned opcode of a cell over the image that the known cells belong to, or HLT if it has none. This is no new
-    /// look.
+    /// Returns the learned opcode of a cell, or HLT if it has none. This is no new look.
     #[inline(always)]
     pub fn learned_opcode(&self, a: u16) -> u8
         ensures kept { result ≡ opcode_in self.now.known a }
         ensures value { IsKept result → result ≡ over (own_of self.now) (beneath_of self.now) a }
         ensures unlooked { IsKept result
             → look (own_of self.now) (looks_of self.now) a ≡ looks_of self.now }
-        ensures low { IsKept result → a < 65024 }
+        ensures operand { IsKept result
+            → AreReadable (is_known self.now.known) a (byte_count (decoded result)) }
+        ensures low { IsKept result → a < SYSTEM_AREA }
     {
         self.known.opcode(a)
     }
 
-    /// Learns the byte of a cell as an opcode, if the cell is known and below the system area. This is no look.
+    /// Learns the byte of a cell as an opcode, if each byte of the instruction is known and the cell is below the system area. This is
+    /// no look.
     #[inline(always)]
     pub fn learn_opcode(&mut self, a: u16)
-        ensures own { own_of self.new ≡ own_of self.old }
-        ensures looks { looks_of self.new ≡ looks_of self.old }
+        ensures memory { memory_of self.new ≡ memory_of self.old }
         ensures ready { is_ready_at self.new ≡ is_ready_at self.old }
         ensures beneath { self.new.beneath ≡ self.old.beneath }
-        ensures learned { is_known self.old.known a ≡ true → a < 65024
+        ensures learned { IsWholeAt self.old.known a → a < SYSTEM_AREA
             → opcode_in self.new.known a ≡ byte_in self.old.known a }
     {
         self.known.learn_opcode(a)
     }
 
-    /// Returns the word at an address over the image that the known cells belong to, low byte first, if both of its cells are
-    /// known, or `None`, as for the word at 0FFFFH. This is no new look.
+    /// Returns the word at an address, low byte first, if both of its cells are known, or `None`, as for the word at 0FFFFH. This is no
+    /// new look.
     #[inline(always)]
     pub fn known_word(&self, a: u16) -> Option<u16>
         ensures value { IfSome result (λ w. w ≡ word (over (own_of self.now) (beneath_of self.now) a)
@@ -243,9 +238,7 @@ impl Overlay {
     pub fn write(&mut self, a: u16, value: u8)
         requires { IsTrue (is_ready_at self.old a) }
         ensures kept { (q : ℕ) → IsTrue (is_ready_at self.old q) → IsTrue (is_ready_at self.new q) }
-        ensures own { own_of self.new ≡ write (own_of self.old) a value }
-        ensures looks { looks_of self.new ≡ looks_of self.old }
-        ensures beneath { beneath_of self.new ≡ beneath_of self.old }
+        ensures memory { memory_of self.new ≡ with_writes (one_byte a value) (memory_of self.old) }
     {
         self.cells.write(a, value);
         self.known.set(a, value);
@@ -257,9 +250,7 @@ impl Overlay {
         requires ready { IsTrue (is_ready_at self.old at) }
         requires page { at % 256 + length values.now ≤ 256 }
         ensures kept { (q : ℕ) → IsTrue (is_ready_at self.old q) → IsTrue (is_ready_at self.new q) }
-        ensures own { own_of self.new ≡ write_all (own_of self.old) (cells_from at values.now) }
-        ensures looks { looks_of self.new ≡ looks_of self.old }
-        ensures beneath { beneath_of self.new ≡ beneath_of self.old }
+        ensures memory { memory_of self.new ≡ with_writes (cells_from at values.now) (memory_of self.old) }
     {
         self.cells.write_in_page(at, values);
         self.known.set_cells(at, values);
@@ -271,9 +262,7 @@ impl Overlay {
         requires ready { IsTrue (is_ready_at self.old a) }
         requires page { a % 256 < 255 }
         ensures kept { (q : ℕ) → IsTrue (is_ready_at self.old q) → IsTrue (is_ready_at self.new q) }
-        ensures own { own_of self.new ≡ write_all (own_of self.old) (one_word a value) }
-        ensures looks { looks_of self.new ≡ looks_of self.old }
-        ensures beneath { beneath_of self.new ≡ beneath_of self.old }
+        ensures memory { memory_of self.new ≡ with_writes (one_word a value) (memory_of self.old) }
     {
         self.write_in_page(a, &[(value % 256) as u8, (value / 256) as u8])
     }
@@ -283,9 +272,7 @@ impl Overlay {
     pub fn write_cells(&mut self, at: u16, values: &[u8])
         requires { (i : ℕ) → i < length values.now → IsTrue (is_ready_at self.old (onward at i)) }
         ensures kept { (q : ℕ) → IsTrue (is_ready_at self.old q) → IsTrue (is_ready_at self.new q) }
-        ensures own { own_of self.new ≡ write_all (own_of self.old) (cells_from at values.now) }
-        ensures looks { looks_of self.new ≡ looks_of self.old }
-        ensures beneath { beneath_of self.new ≡ beneath_of self.old }
+        ensures memory { memory_of self.new ≡ with_writes (cells_from at values.now) (memory_of self.old) }
     {
         if !values.is_empty() && values.len() <= 256 - usize::from(at % 256) {
             // The usual case, in which the count is often a constant at the call.
@@ -299,9 +286,7 @@ impl Overlay {
     fn write_in_pages(&mut self, at: u16, values: &[u8])
         requires { (i : ℕ) → i < length values.now → IsTrue (is_ready_at self.old (onward at i)) }
         ensures kept { (q : ℕ) → IsTrue (is_ready_at self.old q) → IsTrue (is_ready_at self.new q) }
-        ensures own { own_of self.new ≡ write_all (own_of self.old) (cells_from at values.now) }
-        ensures looks { looks_of self.new ≡ looks_of self.old }
-        ensures beneath { beneath_of self.new ≡ beneath_of self.old }
+        ensures memory { memory_of self.new ≡ with_writes (cells_from at values.now) (memory_of self.old) }
     {
         let mut address = at;
         let mut done = 0;
@@ -322,9 +307,7 @@ impl Overlay {
         ensures refused { OnErr result ((i : ℕ) × (i < count)
             × (is_ready_at self.old (onward at i) ≡ false)) }
         ensures kept { (q : ℕ) → IsTrue (is_ready_at self.old q) → IsTrue (is_ready_at self.new q) }
-        ensures own { own_of self.new ≡ own_of self.old }
-        ensures looks { looks_of self.new ≡ looks_of self.old }
-        ensures beneath { beneath_of self.new ≡ beneath_of self.old }
+        ensures memory { memory_of self.new ≡ memory_of self.old }
     {
         // One cell of each page: making it ready makes the page ready.
         let mut done = 0;
@@ -341,10 +324,7 @@ impl Overlay {
     #[inline(always)]
     pub fn copy_known(&self, at: u16, cells: &mut [u8]) -> bool
         ensures length { length cells.new ≡ length cells.old }
-        ensures value { result ≡ true → (i : ℕ) → i < length cells.old
-            → slice_index cells.new i ≡ over (own_of self.now) (beneath_of self.now) (onward at i) }
-        ensures unlooked { result ≡ true → (i : ℕ) → i < length cells.old
-            → look (own_of self.now) (looks_of self.now) (onward at i) ≡ looks_of self.now }
+        ensures known { result ≡ true → AreKnownCells (memory_of self.now) at cells.new }
     {
         cells.len() <= 256 - usize::from(at % 256) && self.known.copy_to(at, cells)
     }
@@ -352,34 +332,28 @@ impl Overlay {
     /// Copies the bytes of cells over an image, starting at `at`, if each was written or looked at before; the cell after
     /// 0FFFFH is 0000H. This is no look. Returns `false` otherwise; the bytes in `cells` are then unspecified.
     #[inline(always)]
-    pub fn known_cells(&self, image: Image<'_>, at: u16, cells: &mut [u8]) -> bool
+    pub fn seen_cells(&self, image: Image<'_>, at: u16, cells: &mut [u8]) -> bool
         ensures length { length cells.new ≡ length cells.old }
-        ensures value { result ≡ true → (i : ℕ) → i < length cells.old
-            → slice_index cells.new i ≡ over (own_of self.now) (cells_of image.entry) (onward at i) }
-        ensures unlooked { result ≡ true → (i : ℕ) → i < length cells.old
-            → look (own_of self.now) (looks_of self.now) (onward at i) ≡ looks_of self.now }
+        ensures known { result ≡ true → AreKnownCells (memory_over image.entry self.now) at cells.new }
     {
         if cells.len() <= 256 - usize::from(at % 256) {
             // The usual case, in which the count is often a constant at the call.
-            return self.known_in_page(image, at, cells);
+            return self.seen_in_page(image, at, cells);
         }
-        self.known_in_pages(image, at, cells)
+        self.seen_in_pages(image, at, cells)
     }
 
     // Does the same, one page after another.
     #[inline(never)]
-    fn known_in_pages(&self, image: Image<'_>, at: u16, cells: &mut [u8]) -> bool
+    fn seen_in_pages(&self, image: Image<'_>, at: u16, cells: &mut [u8]) -> bool
         ensures length { length cells.new ≡ length cells.old }
-        ensures value { result ≡ true → (i : ℕ) → i < length cells.old
-            → slice_index cells.new i ≡ over (own_of self.now) (cells_of image.entry) (onward at i) }
-        ensures unlooked { result ≡ true → (i : ℕ) → i < length cells.old
-            → look (own_of self.now) (looks_of self.now) (onward at i) ≡ looks_of self.now }
+        ensures known { result ≡ true → AreKnownCells (memory_over image.entry self.now) at cells.new }
     {
         let mut address = at;
         let mut copied = 0;
         while copied < cells.len() {
             let count = count_in_page(address, cells.len() - copied);
-            if !self.known_in_page(image, address, &mut cells[copied..copied + count]) {
+            if !self.seen_in_page(image, address, &mut cells[copied..copied + count]) {
                 return false;
             }
             address = address.wrapping_add(count as u16);
@@ -390,13 +364,10 @@ impl Overlay {
 
     // Does the same within a page.
     #[inline(always)]
-    fn known_in_page(&self, image: Image<'_>, at: u16, cells: &mut [u8]) -> bool
+    fn seen_in_page(&self, image: Image<'_>, at: u16, cells: &mut [u8]) -> bool
         requires { at % 256 + length cells.old ≤ 256 }
         ensures length { length cells.new ≡ length cells.old }
-        ensures value { result ≡ true → (i : ℕ) → i < length cells.old
-            → slice_index cells.new i ≡ over (own_of self.now) (cells_of image.entry) (at + i) }
-        ensures unlooked { result ≡ true → (i : ℕ) → i < length cells.old
-            → look (own_of self.now) (looks_of self.now) (at + i) ≡ looks_of self.now }
+        ensures known { result ≡ true → AreKnownCells (memory_over image.entry self.now) at cells.new }
     {
         let Some(beneath) = image.cells(at, cells.len()) else {
             return false;
@@ -439,8 +410,7 @@ impl Overlay {
     /// looked at does not change, but cells may have to be made ready again. `Err` means out of memory.
     pub fn share(&mut self) -> Result<(), AllocError>
         ensures shared { OnOk result ((q : ℕ) → is_ready_at self.new q ≡ false) }
-        ensures own { own_of self.new ≡ own_of self.old }
-        ensures looks { looks_of self.new ≡ looks_of self.old }
+        ensures memory { memory_of self.new ≡ memory_of self.old }
         ensures beneath { self.new.beneath ≡ self.old.beneath }
     {
         self.cells.share()
@@ -454,7 +424,7 @@ impl Overlay {
     {
         let cells = self.cells.snapshot()?;
         let looks = self.looks.snapshot()?;
-        let known = self.known.cleared()?;
+        let known = Known::new(self.cells.allocator())?;
         let beneath = no_image(self.cells.allocator());
         Ok(Overlay {
             cells,
@@ -487,10 +457,9 @@ fn remove_written_in(known: &mut Known, cells: &Cells, page: usize)
     ensures kept { (q : ℕ) → is_known known.new q ≡ true → is_known known.old q ≡ true }
     ensures gone { (q : ℕ) → is_known known.new q ≡ true → (q < 256 * page) ⊎ (256 * page + 256 ≤ q) }
 {
-    if !cells.has_page(page) {
-        return;
+    if cells.has_page(page) {
+        known.remove_page(page);
     }
-    known.remove_page(page);
 }
 
 // Returns how many of `left` bytes fit in the page of a cell, starting with this cell.

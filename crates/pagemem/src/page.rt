@@ -92,10 +92,11 @@ impl Page {
     }
 }
 
-// Returns `true` only if all marks are set.
+// Returns whether all marks are set.
 #[inline(always)]
 pub(crate) fn all_set(marks: &[bool]) -> bool
-    ensures { result ≡ true → (i : ℕ) → i < length marks.now → get_or marks.now i false ≡ true }
+    ensures set { result ≡ true → (i : ℕ) → i < length marks.now → get_or marks.now i false ≡ true }
+    ensures unset { ((i : ℕ) → i < length marks.now → get_or marks.now i false ≡ true) → result ≡ true }
 {
     let mut is_set = true;
     for i in 0..marks.len() {

@@ -1,5 +1,4 @@
 ghost use Rattle.std.specs.Prelude.{◌≡◌, ℕ, Bool, true, None, [], vec_len};
-ghost use Rattle.i8080.specs.Memory.{Memory};
 ghost use Rattle.pagemem.specs.Plain.{plain_own};
 
 use i8080::Bus;

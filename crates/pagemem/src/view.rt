@@ -1,5 +1,4 @@
 ghost use Rattle.std.specs.Prelude.{◌≡◌, ℕ, Bool, Some};
-ghost use Rattle.i8080.specs.Memory.{Memory};
 ghost use Rattle.pagemem.specs.Overlay.{own_of, looks_of, is_ready_at, beneath_of};
 ghost use Rattle.pagemem.specs.ImageView.{cells_of};
 
@@ -81,8 +80,8 @@ impl Bus for View<'_> {
     }
 
     #[inline(always)]
-    fn known_cells(&self, at: u16, cells: &mut [u8]) -> bool {
-        self.overlay.known_cells(self.image, at, cells)
+    fn cells_at_once(&self, at: u16, cells: &mut [u8]) -> bool {
+        self.overlay.seen_cells(self.image, at, cells)
     }
 }
 
@@ -127,8 +126,8 @@ impl Bus for LearningView<'_> {
     }
 
     #[inline(always)]
-    fn known_cells(&self, at: u16, cells: &mut [u8]) -> bool {
-        self.overlay.copy_known(at, cells) || self.overlay.known_cells(self.image, at, cells)
+    fn cells_at_once(&self, at: u16, cells: &mut [u8]) -> bool {
+        self.overlay.copy_known(at, cells) || self.overlay.seen_cells(self.image, at, cells)
     }
 
     #[inline(always)]

@@ -6,11 +6,11 @@ use Rattle.std.specs.FinMap.{get}
 use Rattle.std.proofs.lemmas.Grind.{flat_map-append}
 use Rattle.std.proofs.lemmas.List.{drop_more, take-append-drop}
 use Rattle.std.proofs.lemmas.List.Elements.{Contains-append_left, Contains-append_right, Contains-append_cases, Contains-push_cases}
-use Rattle.folders.specs.FileSystem.{AddsOnly, Becomes, ChangesAt, ChangesOnly, FileBytes, Path}
+use Rattle.folders.specs.FileSystem.{AddsOnly, Becomes, ChangesOnly, FileBytes, Path}
 use Rattle.plan.specs.Plans.{AreFreeFor, ArePrepared, IsFreeIn, all_prepared, temporaries, temporary_of, with_prepared}
 use Rattle.plan.specs.declared.deed.Deed.{Deed}
 use Rattle.plan.specs.declared.deed.Deed.TheVariants.{Put, Remove}
-use Rattle.plan.proofs.Maps.{at_insert, itself, same, same_path, still_free}
+use Rattle.plan.proofs.Maps.{at_insert, still_free}
 use Rattle.std.specs.Prelude.{string_bytes}
 
 -- ---- lists
@@ -126,13 +126,6 @@ more_changed front behind (Some files) now next p q =
       at l n x (inr h) _ = inr (in_two front behind x (inr h))
       at l n x (inl e) (inr h) = inr (in_two front behind x (inl h))
       at l n x (inl e) (inl f) = inl (e ∙ f)
-
-pub at_one : (t : Path) (start now : Option FileBytes) → ChangesAt t start now → ChangesOnly (t ∷ []) start now
-at_one t None now p = tt
-at_one t (Some files) now p = (p.0, p.1, λ x. at x (same x t) refl) where
-  at : (x : Path) (b : Bool) → same x t ≡ b → (get p.0 x ≡ get files x) ⊎ Contains (t ∷ []) x
-  at x true e = inr (subst (Contains (t ∷ [])) (sym (same_path x t e)) (is_in_one t))
-  at x false e = inl (p.2 x (λ is. let other : false ≡ true = sym e ∙ ap (λ y. same x y) (sym is) ∙ itself x in cc))
 
 pub next_changed : {C : Type 0} (deeds : List (Deed C)) (n : ℕ) (d : Deed C) (start now next : Option FileBytes) → n < length deeds → d ≡ get_or deeds n d
     → ChangesOnly (temporaries (take n deeds)) start now → ChangesOnly (temporary_of d) now next → ChangesOnly (temporaries (take (n + 1) deeds)) start next

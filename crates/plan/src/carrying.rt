@@ -6,10 +6,10 @@ ghost use Rattle.folders.specs.Faults.{FailsBy, failure_paths};
 ghost use Rattle.folders.specs.FileSystem.{AddsOnly, Becomes, ChangesOnly, FileBytes};
 ghost use Rattle.plan.specs.Carries.{Carries, CarriesEach};
 ghost use Rattle.plan.specs.Faults.{IsAnyWriteFault, IsUncommitted, IsUnprepared, stop_paths, trouble_paths};
-ghost use Rattle.plan.specs.Plans as texts;
+ghost use Rattle.plan.specs.Plans as plans;
 
 use crate::deed::{Before, Deed};
-use crate::looking::{Stop, Trouble, look, look_at, trouble_of};
+use crate::looking::{Stop, Trouble, look, look_at};
 use crate::making::Plan;
 use folders::{Contents, Failure, Fault, FileSystem, write_failure};
 
@@ -19,11 +19,11 @@ fn prepare_one<S: FileSystem, C: Contents>(
     deed: &Deed<'_, C>,
 ) -> Result<(), Trouble>
     ensures prepared { OnOk result (Becomes (S.files system.old).bytes (S.files system.new).bytes
-        (texts.with_prepared C.bytes deed.now)) }
-    ensures free { OnOk result (texts.IsFreeIn deed.now (S.files system.old).bytes) }
+        (plans.with_prepared C.bytes deed.now)) }
+    ensures free { OnOk result (plans.IsFreeIn deed.now (S.files system.old).bytes) }
     ensures err { OnErr result
-        (AddsOnly (texts.temporary_of deed.now) (S.files system.old).bytes (S.files system.new).bytes) }
-    ensures failed { ReportsPaths (trouble_paths (texts.path_of deed.now)) result
+        (AddsOnly (plans.temporary_of deed.now) (S.files system.old).bytes (S.files system.new).bytes) }
+    ensures failed { ReportsPaths (trouble_paths (plans.path_of deed.now)) result
         (S.files system.old) (S.files system.new) }
 {
     let Deed::Put {
@@ -36,37 +36,32 @@ fn prepare_one<S: FileSystem, C: Contents>(
         return Ok(());
     };
     let durable = !matches!(before, Before::Any);
-    match system.write_new(temporary.as_str(), path.as_str(), contents, durable) {
-        Ok(()) => Ok(()),
-        Err(error) => Err(trouble_of(error)),
-    }
+    system.write_new(temporary.as_str(), path.as_str(), contents, durable)?;
+    Ok(())
 }
 
 // Moves the contents of a prepared deed to its path, or removes its file.
 fn commit_one<S: FileSystem, C>(system: &mut S, deed: &Deed<'_, C>) -> Result<(), Trouble>
     ensures moved { OnOk result (Becomes (S.files system.old).bytes (S.files system.new).bytes
-        (texts.committed deed.now)) }
+        (plans.committed deed.now)) }
     ensures err { OnErr result ((S.files system.new).bytes ≡ (S.files system.old).bytes) }
-    ensures failed { ReportsPaths (trouble_paths (texts.path_of deed.now)) result
+    ensures failed { ReportsPaths (trouble_paths (plans.path_of deed.now)) result
         (S.files system.old) (S.files system.new) }
 {
-    let done = match deed {
+    match deed {
         Deed::Put {
             path,
             temporary,
             ..
-        } => system.rename(temporary.as_str(), path.as_str()),
-        Deed::Remove { path, .. } => system.remove(path.as_str()),
-    };
-    match done {
-        Ok(()) => Ok(()),
-        Err(error) => Err(trouble_of(error)),
+        } => system.rename(temporary.as_str(), path.as_str())?,
+        Deed::Remove { path, .. } => system.remove(path.as_str())?,
     }
+    Ok(())
 }
 
 // Removes what was written at the temporary path of a deed, if it can be removed.
 fn discard_one<S: FileSystem, C>(system: &mut S, deed: &Deed<'_, C>)
-    ensures others { ChangesOnly (texts.temporary_of deed.now)
+    ensures others { ChangesOnly (plans.temporary_of deed.now)
         (S.files system.old).bytes (S.files system.new).bytes }
     ensures failed { (S.files system.new).failed ≡ (S.files system.old).failed }
 {
@@ -78,7 +73,7 @@ fn discard_one<S: FileSystem, C>(system: &mut S, deed: &Deed<'_, C>)
 
 // The same for each of these deeds.
 fn discard_all<S: FileSystem, C>(system: &mut S, deeds: &[Deed<'_, C>])
-    ensures others { ChangesOnly (texts.temporaries deeds.now)
+    ensures others { ChangesOnly (plans.temporaries deeds.now)
         (S.files system.old).bytes (S.files system.new).bytes }
     ensures failed { (S.files system.new).failed ≡ (S.files system.old).failed }
 {
@@ -90,10 +85,10 @@ fn discard_all<S: FileSystem, C>(system: &mut S, deeds: &[Deed<'_, C>])
 // Writes the contents of each deed at its temporary path. After an error what was written is removed.
 fn prepare<S: FileSystem, C: Contents>(system: &mut S, deeds: &[Deed<'_, C>]) -> Result<(), Stop>
     ensures prepared { OnOk result (Becomes (S.files system.old).bytes (S.files system.new).bytes
-        (texts.all_prepared C.bytes deeds.now)) }
-    ensures free { OnOk result (texts.AreFreeIn C.bytes deeds.now (S.files system.old).bytes) }
+        (plans.all_prepared C.bytes deeds.now)) }
+    ensures free { OnOk result (plans.AreFreeIn C.bytes deeds.now (S.files system.old).bytes) }
     ensures err { OnErr result
-        (AddsOnly (texts.temporaries deeds.now) (S.files system.old).bytes (S.files system.new).bytes) }
+        (AddsOnly (plans.temporaries deeds.now) (S.files system.old).bytes (S.files system.new).bytes) }
     ensures at { IfErr result (λ stop. stop.at < length deeds.now) }
     ensures failed { ReportsPaths (stop_paths deeds.now) result (S.files system.old) (S.files system.new) }
 {
@@ -108,10 +103,10 @@ fn prepare<S: FileSystem, C: Contents>(system: &mut S, deeds: &[Deed<'_, C>]) ->
 
 // Does deeds that are prepared, in their order. An error is the first that could not be done.
 fn commit<S: FileSystem, C: Contents>(system: &mut S, deeds: &[Deed<'_, C>]) -> Result<(), Stop>
-    requires { texts.AreApart deeds.now }
+    requires { plans.AreApart deeds.now }
     ensures commits { (start : Option FileBytes)
-        → texts.ArePrepared C.bytes deeds.now start (S.files system.old).bytes
-        → texts.Commits C.bytes deeds.now start (S.files system.new).bytes result }
+        → plans.ArePrepared C.bytes deeds.now start (S.files system.old).bytes
+        → plans.Commits C.bytes deeds.now start (S.files system.new).bytes result }
     ensures at { IfErr result (λ stop. stop.at < length deeds.now) }
     ensures failed { ReportsPaths (stop_paths deeds.now) result (S.files system.old) (S.files system.new) }
 {

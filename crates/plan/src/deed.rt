@@ -1,7 +1,7 @@
 // What is to be done to one file.
 
 ghost use Rattle.std.specs.Prelude.{◌≡◌, string_bytes};
-ghost use Rattle.plan.specs.Plans as texts;
+ghost use Rattle.plan.specs.Plans as plans;
 
 use hostfiles::HostFile;
 
@@ -36,7 +36,7 @@ pub enum Deed<'a, C> {
 impl<'a, C> Deed<'a, C> {
     /// Returns the path.
     pub fn path(&self) -> &str
-        ensures { result.now ≡ texts.path_of self.now }
+        ensures { result.now ≡ plans.path_of self.now }
     {
         match self {
             Deed::Put { path, .. } | Deed::Remove { path, .. } => path.as_str(),
@@ -47,7 +47,7 @@ impl<'a, C> Deed<'a, C> {
     pub(crate) fn into_path(self) -> String
     where
         C: Drop,
-        ensures { string_bytes result ≡ texts.path_of self.entry }
+        ensures { string_bytes result ≡ plans.path_of self.entry }
     {
         match self {
             Deed::Put {
@@ -62,7 +62,7 @@ impl<'a, C> Deed<'a, C> {
 
     /// Returns whether the contents are first written at this path.
     pub fn is_first_at(&self, path: &str) -> bool
-        ensures { result ≡ texts.is_first_at path.now self.now }
+        ensures { result ≡ plans.is_first_at path.now self.now }
     {
         match self {
             Deed::Put { temporary, .. } => temporary.as_bytes() == path.as_bytes(),
@@ -72,7 +72,7 @@ impl<'a, C> Deed<'a, C> {
 
     /// Returns what is expected at the path.
     pub fn before(&self) -> Before<'a>
-        ensures { result ≡ texts.before_of self.now }
+        ensures { result ≡ plans.before_of self.now }
     {
         match self {
             Deed::Put { before, .. } | Deed::Remove { before, .. } => *before,

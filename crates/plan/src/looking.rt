@@ -4,18 +4,15 @@ ghost use Rattle.std.specs.Prelude.{◌≡◌, ◌<◌, ℕ, List, IfErr, IfOk, 
 ghost use Rattle.folders.specs.Failures.{KeepsFiles, io_paths};
 ghost use Rattle.hostfiles.specs.Hosts.{records_in};
 ghost use Rattle.plan.specs.Faults.{stop_paths, trouble_paths};
-ghost use Rattle.plan.specs.Plans as texts;
+ghost use Rattle.plan.specs.Plans as plans;
 
 use crate::deed::{Before, Deed};
-use folders::{FileSystem, Kind};
+use folders::{FileSystem, Kind, MOST_READ};
 use hostfiles::HostFile;
 use hostfiles::host::FILE_LIMIT;
 use std::alloc::{AllocError, Global};
 use std::io;
 use std::io::ErrorKind;
-
-/// The largest number of bytes that are read of a file: one more than a host file can have.
-const MOST_READ: u64 = FILE_LIMIT as u64 + 1;
 
 /// Why a deed is not done.
 #[derive(Clone, Copy, Debug, PartialEq, Eq)]
@@ -37,13 +34,19 @@ pub struct Stop {
     pub trouble: Trouble,
 }
 
-/// Returns the trouble for an error of the file system.
-pub fn trouble_of(error: io::Error) -> Trouble
-    ensures paths { (path : List ℕ) → trouble_paths path result ≡ io_paths path error }
-{
-    match error.kind() {
-        ErrorKind::OutOfMemory => Trouble::OutOfMemory,
-        _ => Trouble::Failed,
+impl From<io::Error> for Trouble {
+    ghost use Rattle.std.specs.Prelude.{◌≡◌, ℕ, List};
+    ghost use Rattle.folders.specs.Failures.{io_paths};
+    ghost use Rattle.plan.specs.Faults.{trouble_paths};
+
+    ghost from_gives = { λ error trouble.
+        (path : List ℕ) → trouble_paths path trouble ≡ io_paths path error };
+
+    fn from(error: io::Error) -> Trouble {
+        match error.kind() {
+            ErrorKind::OutOfMemory => Trouble::OutOfMemory,
+            _ => Trouble::Failed,
+        }
     }
 }
 
@@ -76,13 +79,10 @@ fn is_made_of(alloc: Global, file: &HostFile, bytes: &[u8]) -> Result<bool, Allo
 
 // Checks that the regular file at a path is the one from which a host file was loaded.
 fn look_into<S: FileSystem>(system: &mut S, path: &str, file: &HostFile) -> Result<(), Trouble>
-    ensures same { OnOk result (texts.IsLoaded path.now file.now (S.files system.old).bytes) }
+    ensures same { OnOk result (plans.IsLoaded path.now file.now (S.files system.old).bytes) }
     ensures unchanged { KeepsFiles (trouble_paths path.now) result (S.files system.old) (S.files system.new) }
 {
-    let bytes = match system.read(path, MOST_READ) {
-        Ok(bytes) => bytes,
-        Err(error) => return Err(trouble_of(error)),
-    };
+    let bytes = system.read(path, MOST_READ)?;
     match is_made_of(system.alloc(), file, bytes.as_slice()) {
         Ok(true) => Ok(()),
         Ok(false) => Err(Trouble::Changed),
@@ -92,14 +92,11 @@ fn look_into<S: FileSystem>(system: &mut S, path: &str, file: &HostFile) -> Resu
 
 /// Checks that what is at the path of a deed is as expected.
 pub fn look_at<S: FileSystem, C>(system: &mut S, deed: &Deed<'_, C>) -> Result<(), Trouble>
-    ensures as_expected { OnOk result (texts.IsAsExpected (S.files system.old).bytes deed.now) }
-    ensures unchanged { KeepsFiles (trouble_paths (texts.path_of deed.now)) result
+    ensures as_expected { OnOk result (plans.IsAsExpected (S.files system.old).bytes deed.now) }
+    ensures unchanged { KeepsFiles (trouble_paths (plans.path_of deed.now)) result
         (S.files system.old) (S.files system.new) }
 {
-    let kind = match system.kind(deed.path()) {
-        Ok(kind) => kind,
-        Err(error) => return Err(trouble_of(error)),
-    };
+    let kind = system.kind(deed.path())?;
     match (kind, deed.before()) {
         (Kind::Other, _) => Err(Trouble::Irregular),
         (_, Before::Any) | (Kind::Absent, Before::Nothing) => Ok(()),
@@ -114,7 +111,7 @@ pub fn look_at<S: FileSystem, C>(system: &mut S, deed: &Deed<'_, C>) -> Result<(
 ///
 /// Returns the first deed whose path has something else, or cannot be looked at.
 pub fn look<S: FileSystem, C>(system: &mut S, deeds: &[Deed<'_, C>]) -> Result<(), Stop>
-    ensures as_expected { OnOk result (texts.AreAsExpected (S.files system.old).bytes deeds.now) }
+    ensures as_expected { OnOk result (plans.AreAsExpected (S.files system.old).bytes deeds.now) }
     ensures at { IfErr result (λ stop. stop.at < length deeds.now) }
     ensures unchanged { KeepsFiles (stop_paths deeds.now) result (S.files system.old) (S.files system.new) }
 {

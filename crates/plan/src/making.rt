@@ -6,7 +6,7 @@ ghost use Rattle.folders.specs.Failures.{KeepsFiles, io_paths};
 ghost use Rattle.folders.specs.Faults.{FailsBy, failure_paths};
 ghost use Rattle.folders.specs.Temporaries.{IsTemporaryOf};
 ghost use Rattle.plan.specs.Faults.{IsAnyWriteFault};
-ghost use Rattle.plan.specs.Plans as texts;
+ghost use Rattle.plan.specs.Plans as plans;
 ghost use Rattle.plan.specs.declared.deed.Deed.TheVariants as deed;
 
 use crate::deed::{Before, Deed};
@@ -22,31 +22,23 @@ const MOST_TRIED: u32 = 1000;
 pub struct Plan<'a, C> {
     /// The deeds.
     pub deeds: Vec<Deed<'a, C>>,
-    ghost apart: { texts.AreApart deeds.items },
+    ghost apart: { plans.AreApart deeds.items },
 }
 
 // Returns whether a deed has a path.
 fn is_path_of<C>(deeds: &[Deed<'_, C>], path: &str) -> bool
-    ensures { result ≡ list_any (texts.is_at path.now) deeds.now }
+    ensures { result ≡ list_any (plans.is_at path.now) deeds.now }
 {
-    for deed in deeds {
-        if deed.path().as_bytes() == path.as_bytes() {
-            return true;
-        }
-    }
-    false
+    deeds
+        .iter()
+        .any(|deed| deed.path().as_bytes() == path.as_bytes())
 }
 
 // Returns whether the contents of a deed are first written at a path.
 fn is_temporary_of<C>(deeds: &[Deed<'_, C>], path: &str) -> bool
-    ensures { result ≡ list_any (texts.is_first_at path.now) deeds.now }
+    ensures { result ≡ list_any (plans.is_first_at path.now) deeds.now }
 {
-    for deed in deeds {
-        if deed.is_first_at(path) {
-            return true;
-        }
-    }
-    false
+    deeds.iter().any(|deed| deed.is_first_at(path))
 }
 
 // Returns a temporary path of a path where nothing is, and that is no path of a deed and not this one; or `None` if all that are tried are
@@ -59,7 +51,7 @@ fn temporary_for<S: FileSystem, C>(
     ensures temporary { IfOk result
         (λ found. IfSome found (λ t. IsTemporaryOf path.now (string_bytes t))) }
     ensures apart { IfOk result
-        (λ found. IfSome found (λ t. texts.IsApartFrom deeds.now path.now (string_bytes t))) }
+        (λ found. IfSome found (λ t. plans.IsApartFrom deeds.now path.now (string_bytes t))) }
     ensures unchanged { KeepsFiles (io_paths path.now) result (S.files system.old) (S.files system.new) }
 {
     for number in 0..MOST_TRIED {
@@ -73,7 +65,7 @@ fn temporary_for<S: FileSystem, C>(
 
 // Returns whether a temporary path is no path of a deed and not this one.
 fn is_apart<C>(deeds: &[Deed<'_, C>], path: &str, temporary: &str) -> bool
-    ensures { result ≡ true → texts.IsApartFrom deeds.now path.now temporary.now }
+    ensures { result ≡ true → plans.IsApartFrom deeds.now path.now temporary.now }
 {
     !is_path_of(deeds, temporary) && path.as_bytes() != temporary.as_bytes()
 }
@@ -101,7 +93,7 @@ impl<'a, C: Drop> Plan<'a, C> {
         before: Before<'a>,
         contents: C,
     ) -> Result<(), Failure>
-        ensures put { OnOk result (texts.AddsPut
+        ensures put { OnOk result (plans.AddsPut
             (string_bytes path) before.entry contents self.old.deeds.items self.new.deeds.items) }
         ensures err { OnErr result (self.new.deeds.items ≡ self.old.deeds.items) }
         ensures fault { IfErr result (FailsBy IsAnyWriteFault) }

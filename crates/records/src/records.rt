@@ -113,10 +113,7 @@ impl Records {
 fn extent_at(extents: &[Option<Extent>], number: usize) -> Option<&Extent>
     ensures { option_copied result ≡ get_or extents.now number None }
 {
-    match extents.get(number) {
-        Some(extent) => extent.as_ref(),
-        None => None,
-    }
+    extents.get(number)?.as_ref()
 }
 
 // Sets the extent with a number. If the list is too short, the extents in between are missing. On `Err`, the extents are

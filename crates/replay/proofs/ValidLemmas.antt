@@ -5,10 +5,13 @@ use Rattle.std.specs.declared.alloc.AllocError.{AllocError}
 use Rattle.std.proofs.lemmas.Bool.Decides.{nat_tests}
 use Rattle.circular_buffer.specs.Buffer.{Buffer}
 use Rattle.std.proofs.lemmas.List.{take_all, length-take-le, take-take}
+use Rattle.machine.specs.declared.noting.Noting.{Noting}
+use Rattle.machine.specs.declared.noting.RunNotes.{RunNotes}
 use Rattle.machine.specs.declared.session.TheConstants.{STEP_LIMIT}
 use Rattle.machine.specs.FirstLooks.{IsFirstLooks}
+use Rattle.machine.specs.Inputs.{Session}
 use Rattle.machine.specs.StateView.{PartialState}
-use Rattle.machine.specs.Machine.{Answers, after}
+use Rattle.machine.specs.Machine.{Answers, after, session_answers}
 use Rattle.machine.specs.SavedState.{state_with_text, saved_state_of}
 use Rattle.machine.proofs.TextLemmas.{text_begins, text_length}
 use Rattle.replay.specs.declared.ring.Checkpoint.{Checkpoint}
@@ -16,19 +19,19 @@ use Rattle.replay.specs.declared.rerun.TextUse.{TextUse}
 use Rattle.replay.specs.declared.rerun.TextUse.TheVariants.{Copy, Move}
 use Rattle.replay.specs.declared.ring.Checkpoints.{Checkpoints}
 use Rattle.replay.specs.declared.ring.LeftOut.{LeftOut}
-use Rattle.replay.specs.declared.ring.RunNotes.{RunNotes}
-use Rattle.replay.specs.Resuming.{AreCheckpointsOf}
+use Rattle.replay.specs.Resuming.{AreCheckpointsOf, LeavesCheckpoints}
 use Rattle.replay.specs.RunnerView.{AreCheckpoints}
 use Rattle.replay.specs.Ring.{Each, IsValid, IsValidFor, PushesIfAbove, SomeStep, checkpoint_at, start_step}
-use Rattle.replay.proofs.RingLemmas.{Each-weaken, kept_each, kept_rising}
+use Rattle.replay.proofs.DueLemmas.{still_top}
+use Rattle.replay.proofs.RingLemmas.{Each-weaken, kept_capacity, kept_each, kept_rising, kept_same}
 
 pub new_valid : (f : Answers) (n : ℕ) (st : PartialState) → 1 ≤ n → after f n ≡ Some st → IsValid f (record { step = n; state = saved_state_of st })
 new_valid f n st later at = record { later = later; text = st.core.desk.text; fits = refl; state = at }
 
 -- Something else holds for each of the checkpoints.
-pub each_now : (P Q : Checkpoint → Type 0) (f : Answers) (old : Checkpoints) (noted : Result (Unit {0}) AllocError) (left : Option LeftOut) → AreCheckpoints P f old → Each Q old.ring.items
-    → AreCheckpoints Q f (record old { notes = record { looks = old.notes.looks; noted = noted }; left_out = left })
-each_now P Q f old noted left sound valid =
+pub each_now : (P Q : Checkpoint → Type 0) (f : Answers) (old : Checkpoints) (policy : Noting) (left : Option LeftOut) → AreCheckpoints P f old → Each Q old.ring.items
+    → AreCheckpoints Q f (record old { notes = record { looks = old.notes.looks; noting = policy }; left_out = left })
+each_now P Q f old policy left sound valid =
     record { valid = valid; rising = sound.rising; below = sound.below; noted = sound.noted; spacing_in = sound.spacing_in; seen_in = sound.seen_in }
 
 -- The looks of more steps are noted.
@@ -44,13 +47,13 @@ noted_on f old notes sound first seen = record {
 }
 
 -- A checkpoint was made, or not.
-pub pushed_sound : (f : Answers) (old : Checkpoints) (ring : Buffer Checkpoint) (left : Option LeftOut) (newest n : ℕ) (st : PartialState) → AreCheckpointsOf f old → after f n ≡ Some st
-    → PushesIfAbove newest old.ring ring (checkpoint_at n st) → (IsErr old.notes.noted → ring ≡ old.ring) → (IsOk old.notes.noted → n ≤ old.notes.looks.seen) → Each (λ c. c.step ≤ newest) old.ring.items
+pub pushed_sound : (f : Answers) (old : Checkpoints) (ring : Buffer Checkpoint) (left : Option LeftOut) (newest n : ℕ) (st : PartialState) (r : Result (Unit {0}) AllocError) → AreCheckpointsOf f old → after f n ≡ Some st
+    → PushesIfAbove newest old.ring ring (checkpoint_at n st) → (IsErr r → ring ≡ old.ring) → (IsOk r → n ≤ old.notes.looks.seen) → Each (λ c. c.step ≤ newest) old.ring.items
     → AreCheckpointsOf f (record old { ring = ring; left_out = left })
-pushed_sound f old ring left newest n st sound at keeps none noted top = record {
+pushed_sound f old ring left newest n st r sound at keeps none noted top = record {
   valid = kept_each newest old.ring (checkpoint_at n st) (IsValid f) ring keeps sound.valid (λ h. new_valid f n st (omega (arith, h)) at);
   rising = kept_rising newest old.ring (checkpoint_at n st) ring keeps sound.rising top;
-  below = by_notes old.notes.noted none noted;
+  below = by_notes r none noted;
   noted = sound.noted;
   spacing_in = sound.spacing_in;
   seen_in = sound.seen_in;
@@ -59,6 +62,19 @@ pushed_sound f old ring left newest n st sound at keeps none noted top = record 
     by_notes : (r : Result (Unit {0}) AllocError) → (IsErr r → ring ≡ old.ring) → (IsOk r → n ≤ old.notes.looks.seen) → Each (λ c. c.step ≤ old.notes.looks.seen) ring.items
     by_notes (Ok u) none noted = kept_each newest old.ring (checkpoint_at n st) (λ c. c.step ≤ old.notes.looks.seen) ring keeps sound.below (λ _. noted refl)
     by_notes (Err e) none noted = rw (none refl) sound.below
+
+-- A run continues from step m to step n, and makes a checkpoint there, or not.
+pub left_on : (s : Session) (newest m n : ℕ) (first old : Checkpoints) (ring : Buffer Checkpoint) (notes : RunNotes) (left : Option LeftOut) (st : PartialState) (r : Result (Unit {0}) AllocError)
+    → LeavesCheckpoints s newest m first old → IsFirstLooks (session_answers s) notes.looks → (old.notes.looks.seen ≤ notes.looks.seen) × (notes.looks.seen ≤ STEP_LIMIT)
+    → after (session_answers s) n ≡ Some st → m ≤ n → n ≤ s.limit → PushesIfAbove (max newest m) old.ring ring (checkpoint_at n st) → (IsErr r → ring ≡ old.ring)
+    → (IsOk r → n ≤ notes.looks.seen) → LeavesCheckpoints s newest n first (record old { ring = ring; notes = notes; left_out = left })
+left_on s newest m n first old ring notes left st r leaves known seen at low within keeps none noted = record {
+  sound = pushed_sound (session_answers s) (record old { notes = notes }) ring left (max newest m) n st r (noted_on (session_answers s) old notes leaves.sound known seen) at keeps none noted leaves.upto;
+  upto = still_top newest m old.ring ring (checkpoint_at n st) low keeps leaves.upto;
+  same = λ past. kept_same _ old.ring ring (checkpoint_at n st) keeps (omega (arith, past, within)) ∙ leaves.same past;
+  capacity = kept_capacity _ old.ring (checkpoint_at n st) ring keeps ∙ leaves.capacity;
+  spacing = leaves.spacing;
+}
 
 pub stands_valid : (f : Answers) (text : List ℕ) (xs : List Checkpoint) → Each (IsValidFor f text) xs → Each (IsValid f) xs
 stands_valid f text [] h = tt

@@ -12,9 +12,9 @@ ghost use Rattle.replay.specs.RunnerView.{IsSoundRunner, TicksTo};
 
 use crate::report::LastRun;
 use crate::ring::{Checkpoint, Checkpoints, latest_within, newest_step};
-use crate::run::resume;
+use crate::run::run_to_limit;
 use circular_buffer::HeapCircularBuffer;
-use machine::{BlankMarks, Cause, Meter, STEP_LIMIT, SavedState, Session, State};
+use machine::{BlankMarks, Cause, Meter, Noting, STEP_LIMIT, SavedState, Session, State};
 use std::alloc::{AllocError, Global};
 use std::mem;
 
@@ -130,7 +130,7 @@ fn save_end(
 /// # Errors
 ///
 /// Returns `Err` if an allocation for the run fails. Checkpoints that the run made up to then are kept.
-pub fn rerun(
+pub fn run_again(
     alloc: Global,
     last_run: &mut LastRun,
     checkpoints: &mut Checkpoints,
@@ -160,7 +160,7 @@ pub fn rerun(
 {
     last_run.end = None;
     checkpoints.left_out = None;
-    checkpoints.notes.noted = Ok(());
+    checkpoints.notes.noting = Noting::Looks;
     let newest = newest_step(&checkpoints.ring);
     let text_use = text_use_of(last_run.session.limit(), newest);
     let (from, mut state) = begin(
@@ -172,7 +172,7 @@ pub fn rerun(
         text_use,
     )?;
     let session = &last_run.session;
-    let (steps, ran) = resume(session, checkpoints, meter, newest, from, &mut state);
+    let (steps, ran) = run_to_limit(session, checkpoints, meter, newest, from, &mut state);
     let kept = save_end(&mut last_run.text, &mut last_run.marks, state, text_use);
     let cause = ran?;
     last_run.end = Some(kept);

@@ -2,8 +2,7 @@ ghost use Rattle.std.specs.Prelude.{◌≡◌, ℕ, ◌+◌, ◌*◌, ◌/◌, �
 ghost use Rattle.replay.specs.Ring.{Rising, IsNewest, PushesIfAbove, DropsPast, HasCheckpoint, checkpoint_at, ring_with, start_step};
 
 use circular_buffer::HeapCircularBuffer;
-use first_looks::FirstLooks;
-use machine::{STEP_LIMIT, SavedState, State};
+use machine::{RunNotes, STEP_LIMIT, SavedState, State};
 use std::alloc::AllocError;
 
 /// A step that a run reached, and what is kept of the state there.
@@ -18,13 +17,6 @@ pub struct Checkpoint {
 pub struct LeftOut {
     pub step: u64,
     pub failure: AllocError,
-}
-
-/// The first looks of runs, and the failed allocation if the last run could not note the looks of one of its steps.
-#[derive(Drop)]
-pub struct RunNotes {
-    pub looks: FirstLooks,
-    pub noted: Result<(), AllocError>,
 }
 
 /// The checkpoints of runs, the oldest first; the number of steps from one due checkpoint to the next; the notes of the runs; and the

@@ -13,11 +13,11 @@ use crate::change::{accept, apply, touch_of};
 use crate::edit::{Edit, EditError};
 use crate::options::{Options, OptionsError};
 use crate::report::{LastRun, Report};
-use crate::rerun::rerun;
-use crate::ring::{Checkpoints, RunNotes, drop_past};
+use crate::rerun::run_again;
+use crate::ring::{Checkpoints, drop_past};
 use circular_buffer::HeapCircularBuffer;
 use first_looks::FirstLooks;
-use machine::{Meter, STEP_LIMIT, Session};
+use machine::{Meter, Noting, RunNotes, STEP_LIMIT, Session};
 use std::alloc::{AllocError, Global};
 use std::marker::Model;
 
@@ -110,7 +110,7 @@ impl Runner {
                 ring,
                 notes: RunNotes {
                     looks: FirstLooks::new(alloc),
-                    noted: Ok(()),
+                    noting: Noting::Looks,
                 },
                 left_out: None,
             },
@@ -212,7 +212,7 @@ impl Runner {
         ensures rises { meter.old ≤ meter.new }
     {
         let alloc = *self.last_run.text.allocator();
-        let (steps, cause) = rerun(alloc, &mut self.last_run, &mut self.checkpoints, meter)?;
+        let (steps, cause) = run_again(alloc, &mut self.last_run, &mut self.checkpoints, meter)?;
         Ok(Report {
             last_run: &self.last_run,
             steps,

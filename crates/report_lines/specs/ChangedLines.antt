@@ -20,19 +20,10 @@ abbrev pub changed_text : Key → Option (List Record) → List ℕ
 changed_text key None = codes "gone " ++ display_text key
 changed_text key (Some records) = codes "file " ++ display_text key ++ codes " " ++ records_text records
 
--- The line of a changed file.
-abbrev pub changed_line : Key → Option (List Record) → List ℕ
-changed_line key told = line (changed_text key told)
-
--- The line of a changed file that is gone; nothing for a file that is there.
-abbrev pub gone_line : Key → Option (List Record) → List ℕ
-gone_line key None = line (codes "gone " ++ display_text key)
-gone_line key (Some records) = []
-
--- The line of a changed file if it passes the filter.
+-- The line of a changed file; nothing for a file that is there, if only the ones that are gone are reported.
 abbrev pub line_of_file : FileFilter → Key → Option (List Record) → List ℕ
-line_of_file All = changed_line
-line_of_file GoneOnly = gone_line
+line_of_file GoneOnly key (Some records) = []
+line_of_file filter key told = line (changed_text key told)
 
 -- The lines of the changed files that pass the filter, in the order of their names.
 abbrev pub lines_of_files : FileFilter → Host → Files → List ℕ

@@ -3,6 +3,7 @@ use Rattle.std.specs.Prelude.{ℕ, ◌/◌, ◌%◌, List, [], ◌∷◌, ◌++�
 use Rattle.std.specs.Fmt.{decimal}
 use Rattle.hex.specs.Hex.{encode_lower, encode_upper}
 use Rattle.machine.specs.Flags.{byte_of}
+pub use Rattle.streams.specs.Lines.{line}
 use Rattle.machine.specs.Regs.{Regs}
 use Rattle.machine.specs.Cause.{Cause}
 use Rattle.machine.specs.Cause.TheVariants.{WarmBoot, Halt, Limit, Undefined, SystemArea, ConsoleExhausted, NoDollar, Unsupported, BadDrive}
@@ -19,10 +20,6 @@ byte_text b = encode_upper (b ∷ [])
 -- Four upper-case digits, the high byte first.
 abbrev pub word_text : ℕ → List ℕ
 word_text w = encode_upper (w / 256 ∷ w % 256 ∷ [])
-
--- A line with its end.
-abbrev pub line : List ℕ → List ℕ
-line text = text ++ 10 ∷ []
 
 abbrev pub cause_text : Cause → List ℕ
 cause_text WarmBoot = codes "WarmBoot"

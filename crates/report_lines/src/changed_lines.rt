@@ -4,7 +4,7 @@ ghost use Rattle.std.specs.Prelude.{◌≡◌, ◌++◌, [], length, unwrap_or};
 ghost use Rattle.filenames.specs.Names.{display_text};
 ghost use Rattle.hostfiles.specs.Files.{files};
 ghost use Rattle.hostfiles.specs.FileView.{view_contents};
-ghost use Rattle.report_lines.specs.ChangedLines.{records_text, changed_line, gone_line, line_of_file, lines_of_files};
+ghost use Rattle.report_lines.specs.ChangedLines.{records_text, line_of_file, lines_of_files};
 ghost use Rattle.streams.specs.Pushing.{more};
 
 use crate::hex_digits::push_hex;
@@ -44,37 +44,19 @@ fn push_filtered<X: Text>(text: &mut X, filter: FileFilter, changed: &ChangedFil
     ensures { X.pushed text.new ≡ more (X.pushed text.old)
         (line_of_file filter changed.now.name (view_contents changed.now.file)) }
 {
-    match filter {
-        FileFilter::All => push_changed(text, changed),
-        FileFilter::GoneOnly => push_gone(text, changed),
+    match (changed.file.records(), filter) {
+        (None, _) => {
+            push_named(text, b"gone ", &changed.name);
+            text.push(b"\n")
+        }
+        (Some(_), FileFilter::GoneOnly) => (),
+        (Some(count), FileFilter::All) => {
+            push_named(text, b"file ", &changed.name);
+            text.push(b" ");
+            push_records(text, &changed.file, count);
+            text.push(b"\n")
+        }
     }
-}
-
-// Appends the line of a file that is gone, and nothing for a file that is there.
-fn push_gone<X: Text>(text: &mut X, changed: &ChangedFile<'_>)
-    ensures { X.pushed text.new ≡ more (X.pushed text.old)
-        (gone_line changed.now.name (view_contents changed.now.file)) }
-{
-    if changed.file.records().is_some() {
-        return;
-    }
-    push_changed(text, changed)
-}
-
-// Appends the line of a changed file.
-fn push_changed<X: Text>(text: &mut X, changed: &ChangedFile<'_>)
-    ensures { X.pushed text.new ≡ more (X.pushed text.old)
-        (changed_line changed.now.name (view_contents changed.now.file)) }
-{
-    let Some(count) = changed.file.records() else {
-        push_named(text, b"gone ", &changed.name);
-        text.push(b"\n");
-        return;
-    };
-    push_named(text, b"file ", &changed.name);
-    text.push(b" ");
-    push_records(text, &changed.file, count);
-    text.push(b"\n")
 }
 
 /// Appends a word with its blank, and then a name in its printed form.

@@ -1,7 +1,7 @@
 // The first lines of a report, and the line of its console text.
 
 ghost use Rattle.std.specs.Prelude.{◌≡◌};
-ghost use Rattle.report_lines.specs.FirstLines as texts;
+ghost use Rattle.report_lines.specs.FirstLines as first_lines;
 ghost use Rattle.report_lines.specs.FirstLines.{regs_text, text_line, word_text};
 ghost use Rattle.streams.specs.Pushing.{more};
 
@@ -26,7 +26,7 @@ pub fn word_digits(value: u16) -> ArrayString<4>
 // Returns the name of a cause with its value, as a report has it: a byte or an address in upper-case hexadecimal digits, the number
 // of a call or a drive in decimal.
 fn cause_words(cause: Cause) -> ArrayString<64>
-    ensures { result.bytes ≡ texts.cause_text cause }
+    ensures { result.bytes ≡ first_lines.cause_text cause }
 {
     let mut text = ArrayString::new();
     match cause {
@@ -57,7 +57,7 @@ fn cause_words(cause: Cause) -> ArrayString<64>
 
 /// Returns the line that says why a run stopped, with its line end.
 pub fn stop_line(cause: Cause) -> ArrayString<80>
-    ensures { result.bytes ≡ texts.stop_line cause }
+    ensures { result.bytes ≡ first_lines.stop_line cause }
 {
     let mut text = ArrayString::new();
     text.push_str("stop ");
@@ -96,7 +96,7 @@ pub fn regs_words(regs: Regs) -> ArrayString<64>
 
 // Returns the line of the steps.
 fn steps_line(steps: u64) -> ArrayString<32>
-    ensures { result.bytes ≡ texts.steps_line steps }
+    ensures { result.bytes ≡ first_lines.steps_line steps }
 {
     let mut text = ArrayString::new();
     text.push_str("steps ");
@@ -107,7 +107,7 @@ fn steps_line(steps: u64) -> ArrayString<32>
 
 /// Returns the first three lines of a report: `stop`, `steps` and `regs`.
 pub fn report_head(cause: Cause, steps: u64, regs: Regs) -> ArrayString<256>
-    ensures { result.bytes ≡ texts.report_head cause steps regs }
+    ensures { result.bytes ≡ first_lines.report_head cause steps regs }
 {
     let mut text = ArrayString::new();
     text.push_str(stop_line(cause).as_str());

@@ -2,7 +2,7 @@
 use Rattle.std.specs.Prelude.{◌≡◌, ◌⊎◌, ℕ, List}
 use Rattle.faults.specs.Faults.{BreaksText}
 use Rattle.faults.specs.declared.fault.Fault.{Fault}
-use Rattle.one_run.specs.World.{World}
+use Rattle.requests.specs.World.{World}
 use Rattle.requests.specs.Requests.{WritesNothing}
 use Rattle.streams.specs.Streams.{WritesOrFails, WritesWhole}
 

@@ -1,3 +1,4 @@
+pub mod World
 pub mod Requests
 pub mod Acts
 pub mod Programs

@@ -10,8 +10,8 @@ use Rattle.faults.specs.declared.tool.Tool.{Tool}
 use Rattle.folders.specs.DriveFolders.{AreListings}
 use Rattle.folders.specs.declared.listing.Listing.{Listing}
 use Rattle.loading.specs.Loading.{FailsToLoad, IsLoadedFrom}
-use Rattle.machine.specs.Inputs.{Session}
-use Rattle.one_run.specs.World.{World}
+use Rattle.loading.specs.Inputs.{Session}
+use Rattle.requests.specs.World.{World}
 use Rattle.requests.specs.Acts.{Act}
 use Rattle.requests.specs.Requests.{FailsToInform, FailsToTake, WritesNothing}
 use Rattle.streams.specs.Streams.{WritesWhole}

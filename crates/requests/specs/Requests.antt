@@ -5,7 +5,7 @@ use Rattle.command_words.specs.declared.clashes.Clash.{Clash}
 use Rattle.command_words.specs.declared.clashes.Clash.TheVariants.{Both, SameFolder, Missing}
 use Rattle.command_words.specs.declared.error_classes.ErrorClass.{ErrorClass}
 use Rattle.command_words.specs.declared.error_classes.ErrorClass.TheVariants as outcome
-use Rattle.one_run.specs.World.{World}
+use Rattle.requests.specs.World.{World}
 use Rattle.streams.specs.Streams.{Output, WritesPart, WritesText}
 use Rattle.faults.specs.Faults.{usage_text}
 use Rattle.requests.specs.declared.request.Request.{Request}

@@ -168,3 +168,20 @@ fn in_the_system_area(rt: &impl Abort, overlay: &mut Overlay) -> Result<(), Fail
     assert!(rt; overlay.learned_opcode(0xfe00) == HLT);
     Ok(())
 }
+
+#[test]
+fn an_opcode_is_learned_once_its_operand_is_known(rt: HostRuntime) -> Result<(), Fail> {
+    const JMP: u8 = 0xc3;
+    let mut overlay = Overlay::new(rt.alloc())?;
+    put(&mut overlay, 0x0100, JMP)?;
+    put(&mut overlay, 0x0101, 0x34)?;
+    overlay.learn_opcode(0x0100);
+    assert!(rt; overlay.learned_opcode(0x0100) == HLT);
+    put(&mut overlay, 0x0102, 0x12)?;
+    overlay.learn_opcode(0x0100);
+    assert!(rt; overlay.learned_opcode(0x0100) == JMP);
+    // Another operand does not change the opcode.
+    put(&mut overlay, 0x0102, 0x56)?;
+    assert!(rt; overlay.learned_opcode(0x0100) == JMP);
+    Ok(())
+}

@@ -1,5 +1,5 @@
 -- The choice of steps that the words describe. (This project's profile.)
-use Rattle.std.specs.Prelude.{◌≡◌, ◌==◌, ◌&&◌, ℕ, Bool, nat_le, nat_lt, List, length, if◌then◌else◌, codes, IsSome, Option, Some, None, unwrap_or}
+use Rattle.std.specs.Prelude.{◌≡◌, ◌==◌, ◌&&◌, ◌⊎◌, ℕ, Bool, nat_le, nat_lt, List, length, if◌then◌else◌, codes, IsSome, Option, Some, None, unwrap_or}
 use Rattle.std.specs.Borrow.{Bor}
 use Rattle.std.specs.Char.{is_ascii_hexdigit}
 use Rattle.std.specs.List.{after_first, before_first, list_all, position_or_len}
@@ -8,9 +8,10 @@ use Rattle.std.specs.Str.Parse.{digits_value}
 use Rattle.command_words.specs.declared.trace_words.TraceWords.{TraceWords}
 use Rattle.filenames.specs.Names.{Key, name_of}
 use Rattle.faults.specs.Faults.{value_text}
-use Rattle.trials.specs.declared.ranges.CellRange.{CellRange}
+use Rattle.faults.specs.declared.fault.Fault.{Fault}
+use Rattle.requests.specs.Requests.{IsUsageError}
+use Rattle.accesses.specs.declared.ranges.CellRange.{CellRange}
 use Rattle.trace_filters.specs.declared.choice.Choice.{Choice}
-use Rattle.trace_command.specs.declared.choice.BadValue.{BadValue}
 use Rattle.trace_command.specs.declared.choice.Filter.{Filter}
 use Rattle.trace_command.specs.declared.choice.Filter.TheVariants.{At, Writes, Reads, File}
 
@@ -60,20 +61,6 @@ pub record IsChoiceOf (w : TraceWords) (c : Choice) : Type 0 where
 
 -- ---- values that options cannot have
 
--- The option has this text, which has no meaning.
-abbrev pub IsUnread : {T : Type 0} → (List ℕ → Option T) → Option (Bor (List ℕ)) → Bor (List ℕ) → Type 0
-IsUnread meaning text value = (text ≡ Some value) × (meaning value.now ≡ None)
-
-abbrev pub HasNoMeaning : TraceWords → Filter → Bor (List ℕ) → Type 0
-HasNoMeaning w At value = IsUnread address_of w.at value
-HasNoMeaning w Writes value = IsUnread cells_of w.writes value
-HasNoMeaning w Reads value = IsUnread cells_of w.reads value
-HasNoMeaning w File value = IsUnread file_of w.file value
-
--- The words have this value, which its option cannot have.
-abbrev pub IsBadValueOf : TraceWords → BadValue → Type 0
-IsBadValueOf w bad = HasNoMeaning w bad.filter bad.value
-
 abbrev pub option_text : Filter → List ℕ
 option_text At = codes "--at <ADDR>"
 option_text Writes = codes "--writes <RANGE>"
@@ -86,6 +73,15 @@ mistake_text Writes = codes "not ADDR or ADDR-ADDR with the lower address first"
 mistake_text Reads = codes "not ADDR or ADDR-ADDR with the lower address first"
 mistake_text File = codes "not a name of a file on the drives A to D"
 
--- The message of such a value, worded as clap's.
-abbrev pub bad_value_text : BadValue → List ℕ
-bad_value_text bad = value_text bad.value.now (option_text bad.filter) (mistake_text bad.filter)
+-- The usage error of an option with a text that it cannot have, worded as clap's.
+abbrev pub IsBadText : Filter → List ℕ → Fault → Type 0
+IsBadText filter text fault = IsUsageError (value_text text (option_text filter) (mistake_text filter)) fault
+
+-- The option has a text that has no meaning.
+abbrev pub RefusesText : {T : Type 0} → Filter → (List ℕ → Option T) → Option (Bor (List ℕ)) → Fault → Type 0
+RefusesText filter meaning text fault = (t : Bor (List ℕ)) × (text ≡ Some t) × (meaning t.now ≡ None) × IsBadText filter t.now fault
+
+abbrev pub RefusesValue : TraceWords → Fault → Type 0
+RefusesValue w fault =
+    RefusesText At address_of w.at fault ⊎ RefusesText Writes cells_of w.writes fault ⊎ RefusesText Reads cells_of w.reads fault
+    ⊎ RefusesText File file_of w.file fault

@@ -3,20 +3,13 @@ use Rattle.command_words.specs.Clashes.{trace_checks}
 use Rattle.command_words.specs.ErrorClass.{HasErrorClass}
 use Rattle.command_words.specs.TraceLine.{AreTraceWordsOf, trace_faults, trace_matches}
 use Rattle.command_words.specs.declared.trace_words.TraceWords.{TraceWords}
-use Rattle.faults.specs.declared.fault.Fault.{Fault}
 use Rattle.faults.specs.declared.tool.Tool.TheVariants.{Cpmtrace}
 use Rattle.requests.specs.Acts.{print, with_some}
 use Rattle.requests.specs.Programs.{Program, Task}
-use Rattle.requests.specs.Requests.{IsUsageError}
 use Rattle.trace_filters.specs.declared.choice.Choice.{Choice}
 use Rattle.tracing.specs.Trace.{trace_text}
 use Rattle.trace_command.specs.AreTraceWords.{AreTraceWords}
-use Rattle.trace_command.specs.Choices.{IsBadValueOf, IsChoiceOf, bad_value_text}
-use Rattle.trace_command.specs.declared.choice.BadValue.{BadValue}
-
--- The words have a value that its option cannot have.
-abbrev pub RefusesValue : TraceWords → Fault → Type 0
-RefusesValue w fault = (bad : BadValue) × IsBadValueOf w bad × IsUsageError (bad_value_text bad) fault
+use Rattle.trace_command.specs.Choices.{IsChoiceOf, RefusesValue}
 
 -- The trace of the session of these words is written.
 abbrev pub tracing : TraceWords → Task

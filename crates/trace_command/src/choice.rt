@@ -1,10 +1,11 @@
 // The choice of steps that the words describe.
 
-ghost use Rattle.std.specs.Prelude.{◌≡◌, IfErr, IfOk, None, Some};
+ghost use Rattle.std.specs.Prelude.{◌≡◌, ℕ, IfErr, IfOk, List, None, Some};
+ghost use Rattle.std.specs.Borrow.{Bor};
 ghost use Rattle.std.specs.Char.{is_ascii_hexdigit};
 ghost use Rattle.std.specs.List.{list_all};
-ghost use Rattle.trace_command.specs.Choices as texts;
-ghost use Rattle.trace_command.specs.Choices.{IsBadValueOf, IsChoiceOf};
+ghost use Rattle.trace_command.specs.Choices as choices;
+ghost use Rattle.trace_command.specs.Choices.{IsChoiceOf, RefusesValue};
 
 use command_words::TraceWords;
 use filenames::{Key, Name};
@@ -25,22 +26,13 @@ pub enum Filter {
     File,
 }
 
-/// A value that an option cannot have.
-#[derive(Clone, Copy)]
-pub struct BadValue<'a> {
-    /// The option.
-    pub filter: Filter,
-    /// Its value.
-    pub value: &'a str,
-}
-
 impl Filter {
     ghost use Rattle.std.specs.Prelude.{◌≡◌};
-    ghost use Rattle.trace_command.specs.Choices as texts;
+    ghost use Rattle.trace_command.specs.Choices as choices;
 
     // Returns the option with the name of its value.
     fn option(self) -> &'static str
-        ensures { result.now ≡ texts.option_text self }
+        ensures { result.now ≡ choices.option_text self }
     {
         match self {
             Filter::At => "--at <ADDR>",
@@ -52,30 +44,13 @@ impl Filter {
 
     // Returns what is wrong with a value that the option cannot have.
     fn mistake(self) -> &'static str
-        ensures { result.now ≡ texts.mistake_text self }
+        ensures { result.now ≡ choices.mistake_text self }
     {
         match self {
             Filter::At => "not an address of 1 to 4 hexadecimal digits",
             Filter::Writes | Filter::Reads => "not ADDR or ADDR-ADDR with the lower address first",
             Filter::File => "not a name of a file on the drives A to D",
         }
-    }
-}
-
-impl BadValue<'_> {
-    ghost use Rattle.requests.specs.Requests.{IsUsageError};
-    ghost use Rattle.trace_command.specs.Choices as texts;
-
-    /// Returns the usage error of such a value.
-    pub fn fault<'a>(&self, alloc: Global) -> Fault<'a>
-        ensures { IsUsageError (texts.bad_value_text self.now) result }
-    {
-        taken_fault(
-            alloc,
-            self.value,
-            self.filter.option(),
-            self.filter.mistake(),
-        )
     }
 }
 
@@ -88,7 +63,7 @@ fn are_digits(text: &[u8]) -> bool
 
 // Returns whether a text is 1 to 4 hexadecimal digits.
 fn is_address(text: &str) -> bool
-    ensures { result ≡ texts.is_address text.now }
+    ensures { result ≡ choices.is_address text.now }
 {
     let digits = text.as_bytes();
     !digits.is_empty() && digits.len() <= 4 && are_digits(digits)
@@ -96,7 +71,7 @@ fn is_address(text: &str) -> bool
 
 // Returns the address of a text.
 fn address_of(text: &str) -> Option<u16>
-    ensures { result ≡ texts.address_of text.now }
+    ensures { result ≡ choices.address_of text.now }
 {
     if !is_address(text) {
         return None;
@@ -106,7 +81,7 @@ fn address_of(text: &str) -> Option<u16>
 
 // Returns the cells from the first address to the last.
 fn cells_between(first: Option<u16>, last: Option<u16>) -> Option<CellRange>
-    ensures { result ≡ texts.cells_between first last }
+    ensures { result ≡ choices.cells_between first last }
 {
     match (first, last) {
         (Some(first), Some(last)) if first <= last => Some(CellRange { first, last }),
@@ -116,7 +91,7 @@ fn cells_between(first: Option<u16>, last: Option<u16>) -> Option<CellRange>
 
 // Returns the cells of a text with an address, or with two and a hyphen between them.
 fn cells_of(text: &str) -> Option<CellRange>
-    ensures { result ≡ texts.cells_of text.now }
+    ensures { result ≡ choices.cells_of text.now }
 {
     match text.split_once('-') {
         Some((first, last)) => cells_between(address_of(first), address_of(last)),
@@ -126,7 +101,7 @@ fn cells_of(text: &str) -> Option<CellRange>
 
 // Returns the key of a name.
 fn file_of(text: &str) -> Option<Key>
-    ensures { result ≡ texts.file_of text.now }
+    ensures { result ≡ choices.file_of text.now }
 {
     match Name::parse(text) {
         Ok(name) => Some(name.key()),
@@ -136,16 +111,17 @@ fn file_of(text: &str) -> Option<Key>
 
 // Returns the value that was read of an option's text, which must have one.
 fn value_of<'a, T: Drop>(
+    alloc: Global,
     filter: Filter,
-    text: Option<&'a str>,
+    text: Option<&str>,
     value: Option<T>,
-) -> Result<Option<T>, BadValue<'a>>
+) -> Result<Option<T>, Fault<'a>>
     ensures value { IfOk result (λ v. (v ≡ value) × (v ≡ None → text.entry ≡ None)) }
-    ensures bad { IfErr result
-        (λ bad. (bad.filter ≡ filter) × (text.entry ≡ Some bad.value) × (value ≡ None)) }
+    ensures fault { IfErr result (λ fault. (value ≡ None)
+        × (t : Bor (List ℕ)) × (text.entry ≡ Some t) × choices.IsBadText filter t.now fault) }
 {
     match (text, value) {
-        (Some(value), None) => Err(BadValue { filter, value }),
+        (Some(text), None) => Err(taken_fault(alloc, text, filter.option(), filter.mistake())),
         (_, value) => Ok(value),
     }
 }
@@ -155,22 +131,20 @@ fn value_of<'a, T: Drop>(
 /// # Errors
 ///
 /// Returns `Err` if an option has a value that it cannot have.
-pub fn read_choice<'a>(words: &TraceWords<'a>) -> Result<Choice, BadValue<'a>>
+pub fn read_choice<'a>(alloc: Global, words: &TraceWords<'_>) -> Result<Choice, Fault<'a>>
     ensures choice { IfOk result (IsChoiceOf words.now) }
-    ensures bad { IfErr result (IsBadValueOf words.now) }
+    ensures fault { IfErr result (RefusesValue words.now) }
 {
+    let (at, file) = (words.at, words.file);
+    let (writes, reads) = (words.writes, words.reads);
     Ok(Choice {
         instructions: words.steps,
         from: words.from.unwrap_or(0),
         to: words.to.unwrap_or(u64::MAX),
-        at: value_of(Filter::At, words.at, words.at.and_then(address_of))?,
-        writes: value_of(
-            Filter::Writes,
-            words.writes,
-            words.writes.and_then(cells_of),
-        )?,
-        reads: value_of(Filter::Reads, words.reads, words.reads.and_then(cells_of))?,
-        file: value_of(Filter::File, words.file, words.file.and_then(file_of))?,
+        at: value_of(alloc, Filter::At, at, at.and_then(address_of))?,
+        writes: value_of(alloc, Filter::Writes, writes, writes.and_then(cells_of))?,
+        reads: value_of(alloc, Filter::Reads, reads, reads.and_then(cells_of))?,
+        file: value_of(alloc, Filter::File, file, file.and_then(file_of))?,
         last: words.last,
     })
 }

@@ -1,34 +1,20 @@
 // The whole program except its `main`.
 
-ghost use Rattle.std.specs.Prelude.{◌≡◌, IfErr, IfOk, OnOk, map, string_bytes};
+ghost use Rattle.std.specs.Prelude.{◌≡◌, IfErr, OnOk, map, string_bytes};
 ghost use Rattle.folders.specs.Failures.{KeepsFiles};
-ghost use Rattle.one_run.specs.World.{world};
+ghost use Rattle.requests.specs.World.{world};
 ghost use Rattle.streams.specs.Streams.{Output};
 ghost use Rattle.faults.specs.Faults.{file_paths};
 ghost use Rattle.requests.specs.Programs.{Ends, EndsWell, FaultOf};
-ghost use Rattle.trace_command.specs.Choices.{IsChoiceOf};
-ghost use Rattle.trace_command.specs.Program.{RefusesValue, cpmtrace};
+ghost use Rattle.trace_command.specs.Program.{cpmtrace};
 
 use crate::choice::read_choice;
 use crate::request::read_request;
-use command_words::TraceWords;
 use folders::FileSystem;
 use loading::load;
 use requests::{Fault, Request, Tool, print_information, report_fault};
-use std::alloc::Global;
 use streams::Writer;
-use tracing::{Choice, write_trace};
-
-/// Returns the choice of steps that the words describe.
-fn choose<'a>(alloc: Global, words: &TraceWords<'_>) -> Result<Choice, Fault<'a>>
-    ensures choice { IfOk result (IsChoiceOf words.now) }
-    ensures fault { IfErr result (RefusesValue words.now) }
-{
-    match read_choice(words) {
-        Ok(choice) => Ok(choice),
-        Err(bad) => Err(bad.fault(alloc)),
-    }
-}
+use tracing::write_trace;
 
 /// Executes the command that the words describe.
 fn run<'a, S: FileSystem, O: Writer>(
@@ -49,7 +35,7 @@ fn run<'a, S: FileSystem, O: Writer>(
         Request::Session(words) => words,
         Request::Information(text) => return print_information(text.as_str(), out),
     };
-    let choice = choose(system.alloc(), &words)?;
+    let choice = read_choice(system.alloc(), &words)?;
     let loaded = load(system, &words.session)?;
     write_trace(system.alloc(), &loaded.session, &choice, out)
 }

@@ -10,12 +10,12 @@ use Rattle.machine.specs.PlainState.{PlainState}
 use Rattle.machine.specs.Regs.{Regs}
 use Rattle.trace_lines.specs.CallForms.{argument_of}
 use Rattle.trace_lines.specs.CallLines.{block_in}
-use Rattle.trace_lines.specs.StepLines.{is_instruction}
+use Rattle.machine.specs.Step.{is_call, is_instruction}
 use Rattle.trace_lines.specs.declared.forms.Argument.{Argument}
-use Rattle.trials.specs.Accesses.{read_cells, written_cells}
-use Rattle.trials.specs.Ranges.{passes_cells}
-use Rattle.trials.specs.declared.ranges.CellRange.{CellRange}
-use Rattle.trace_filters.specs.Chosen.{call_names, has_line, is_call, is_chosen, names_file}
+use Rattle.accesses.specs.Accesses.{read_cells, written_cells}
+use Rattle.accesses.specs.Ranges.{passes_cells}
+use Rattle.accesses.specs.declared.ranges.CellRange.{CellRange}
+use Rattle.trace_filters.specs.Chosen.{call_names, has_line, is_chosen, names_file}
 use Rattle.trace_filters.specs.declared.choice.Choice.{Choice}
 
 -- The parts of a control block that a run has are the state's.
@@ -31,10 +31,10 @@ second true i x h other = absurd (cc)
 second false i x h other = (and_parts i x h).1
 
 -- A chosen step that is no call is an instruction.
-pub chosen_instruction : (c : Choice) (n : ℕ) (w : PlainState) → is_chosen c n w ≡ true → is_call w ≡ false → is_instruction w ≡ true
+pub chosen_instruction : (c : Choice) (n : ℕ) (w : PlainState) → is_chosen c n w ≡ true → is_call w.core ≡ false → is_instruction w.core ≡ true
 unfolding is_chosen
 chosen_instruction c n w chosen no_call =
-    second (is_call w) c.instructions (is_instruction w) (and_parts _ _ (and_parts _ _ (and_parts _ _ chosen).0).0).1 no_call
+    second (is_call w.core) c.instructions (is_instruction w.core) (and_parts _ _ (and_parts _ _ (and_parts _ _ chosen).0).0).1 no_call
 
 pub no_line : (c : Choice) (s : Session) (n : ℕ) (w : PlainState) → is_chosen c n w ≡ false → has_line c s n w ≡ false
 unfolding has_line

@@ -8,18 +8,14 @@ use Rattle.filenames.specs.declared.drive.Drive.{Drive}
 use Rattle.bdos.specs.FileCalls.{drive_of_byte}
 use Rattle.machine.specs.Inputs.{Session}
 use Rattle.machine.specs.PlainState.{PlainState}
+use Rattle.machine.specs.Step.{is_call, is_instruction}
 use Rattle.trace_filters.specs.declared.choice.Choice.{Choice}
 use Rattle.trace_lines.specs.CallForms.{argument_of}
 use Rattle.trace_lines.specs.CallLines.{block_in}
-use Rattle.trace_lines.specs.StepLines.{is_instruction}
 use Rattle.trace_lines.specs.declared.forms.Argument.{Argument}
 use Rattle.trace_lines.specs.declared.forms.Argument.TheVariants as argument
-use Rattle.trials.specs.Accesses.{read_cells, written_cells}
-use Rattle.trials.specs.Ranges.{passes_cells}
-
--- A call is at the address of the BDOS.
-abbrev pub is_call : PlainState → Bool
-is_call w = w.core.regs.pc == 0xfe06
+use Rattle.accesses.specs.Accesses.{read_cells, written_cells}
+use Rattle.accesses.specs.Ranges.{passes_cells}
 
 abbrev pub passes_address : Option ℕ → ℕ → Bool
 passes_address None pc = true
@@ -45,13 +41,13 @@ call_names w key =
 
 unfoldable pub passes_file : Option Key → PlainState → Bool
 passes_file None w = true
-passes_file (Some key) w = is_call w && call_names w key
+passes_file (Some key) w = is_call w.core && call_names w key
 
 -- Whether a step is chosen by its number, its kind, its PC and the file that it names.
 unfoldable pub is_chosen : Choice → ℕ → PlainState → Bool
 is_chosen c n w =
     nat_le c.from n && nat_le n c.to
-    && (is_call w || (c.instructions && is_instruction w))
+    && (is_call w.core || (c.instructions && is_instruction w.core))
     && passes_address c.at w.core.regs.pc
     && passes_file c.file w
 

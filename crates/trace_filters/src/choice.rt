@@ -1,7 +1,7 @@
 // Which steps have a line.
 
+use accesses::CellRange;
 use filenames::Key;
-use trials::CellRange;
 
 /// Which steps of a run have a line: the ones that pass all of these.
 #[derive(Clone, Copy, Debug, PartialEq, Eq)]

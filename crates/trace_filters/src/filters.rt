@@ -3,20 +3,20 @@
 ghost use Rattle.std.specs.Prelude.{◌≡◌, ◌≤◌, ◌&&◌, ◌||◌, ◌∷◌, ◌++◌, IfOk, IsOk, OnErr, None, true};
 ghost use Rattle.std.specs.List.{list_any};
 ghost use Rattle.machine.specs.Runs.{state_of};
-ghost use Rattle.trials.specs.Accesses.{read_cells, written_cells};
+ghost use Rattle.accesses.specs.Accesses.{read_cells, written_cells};
 ghost use Rattle.trace_lines.specs.Rows.{row};
-ghost use Rattle.trials.specs.Ranges.{is_in_range, passes_cells};
-ghost use Rattle.trace_lines.specs.StepLines.{is_instruction};
-ghost use Rattle.trace_filters.specs.Chosen.{call_names, has_line, is_call, is_chosen, names, names_file, passes_address, passes_file};
+ghost use Rattle.accesses.specs.Ranges.{is_in_range, passes_cells};
+ghost use Rattle.machine.specs.Step.{is_call, is_instruction};
+ghost use Rattle.trace_filters.specs.Chosen.{call_names, has_line, is_chosen, names, names_file, passes_address, passes_file};
 
 use crate::choice::Choice;
+use accesses::{CellRange, SpareMemory, call_passes};
 use bdos::drive_of_byte;
 use directory::is_match;
 use filenames::{Drive, Fcb, Key};
-use machine::{Run, Session};
+use machine::Run;
 use std::alloc::AllocError;
 use trace_lines::{Argument, CellRow, argument_of, block_at, key_on, read_rows, written_row};
-use trials::{CellRange, Trials, call_passes};
 
 // Returns whether a cell is in a range.
 fn is_in_range(range: CellRange, at: u16) -> bool
@@ -88,7 +88,8 @@ fn passes_file(run: &Run<'_>, file: &Option<Key>) -> bool
 
 // Returns whether the next step is a call, or an instruction if they have lines too.
 fn is_shown(run: &Run<'_>, instructions: bool) -> bool
-    ensures { let w = state_of run.now in result ≡ (is_call w || (instructions && is_instruction w)) }
+    ensures { let c = (state_of run.now).core in
+        result ≡ (is_call c || (instructions && is_instruction c)) }
 {
     run.is_at_call() || (instructions && run.is_at_instruction())
 }
@@ -110,7 +111,7 @@ fn is_chosen(run: &Run<'_>, choice: &Choice) -> bool
 
 // Returns whether the instruction at which a run is reads and writes what the filters ask for.
 fn instruction_passes(run: &Run<'_>, choice: &Choice) -> bool
-    requires { is_instruction (state_of run.now) ≡ true }
+    requires { is_instruction (state_of run.now).core ≡ true }
     ensures { let s = run.now.session in let w = state_of run.now in
         result ≡ (passes_cells choice.now.writes (written_cells s w)
         && passes_cells choice.now.reads (read_cells s w)) }
@@ -130,17 +131,12 @@ fn instruction_passes(run: &Run<'_>, choice: &Choice) -> bool
 /// # Errors
 ///
 /// `Err` means out of memory, to try a call that passes the other filters if there is a filter of cells.
-pub fn has_line(
-    run: &Run<'_>,
-    session: &Session,
-    choice: &Choice,
-    trials: &mut Trials,
-) -> Result<bool, AllocError>
-    requires { run.now.session ≡ session.now }
-    ensures line { IfOk result (λ b. b ≡ has_line choice.now session.now run.now.step (state_of run.now)) }
+pub fn has_line(run: &Run<'_>, choice: &Choice, spare: &mut SpareMemory) -> Result<bool, AllocError>
+    ensures line { IfOk result (λ b.
+        b ≡ has_line choice.now run.now.session run.now.step (state_of run.now)) }
     ensures sure { choice.now.writes ≡ None → choice.now.reads ≡ None → IsOk result }
-    ensures tried { OnErr result (is_chosen choice.now run.now.step (state_of run.now) ≡ true) }
-    ensures called { OnErr result (is_call (state_of run.now) ≡ true) }
+    ensures chosen { OnErr result (is_chosen choice.now run.now.step (state_of run.now) ≡ true) }
+    ensures called { OnErr result (is_call (state_of run.now).core ≡ true) }
 {
     if !is_chosen(run, choice) {
         return Ok(false);
@@ -149,7 +145,7 @@ pub fn has_line(
         return Ok(true);
     }
     if run.is_at_call() {
-        return call_passes(run, session, choice.writes, choice.reads, trials);
+        return call_passes(run, choice.writes, choice.reads, spare);
     }
     Ok(instruction_passes(run, choice))
 }

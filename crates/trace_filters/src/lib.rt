@@ -7,6 +7,6 @@
 mod choice;
 mod filters;
 
+pub use accesses::{CellRange, SpareMemory};
 pub use choice::Choice;
 pub use filters::has_line;
-pub use trials::{CellRange, Trials};

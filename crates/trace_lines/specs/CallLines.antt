@@ -30,9 +30,9 @@ block_in w = map (λ i. slice_index w.memory (onward (address_in w.core.regs) i)
 abbrev pub drive_in : PlainState → ℕ
 drive_in w = if slice_index (block_in w) 0 == 0 then drive_number w.core.desk.spot.drive else slice_index (block_in w) 0 - 1
 
--- A file of the control block, by the drive and the eleven bytes from an index on.
-unfoldable pub file_text : PlainState → ℕ → List ℕ
-file_text w at = name_text (drive_in w ∷ name_at (block_in w) at)
+-- A file of the control block, by the drive and the eleven bytes of a name.
+unfoldable pub file_text : PlainState → List ℕ → List ℕ
+file_text w name = name_text (drive_in w ∷ name)
 
 -- A record number, and the buffer that gets the record or has it.
 abbrev pub record_text : PlainState → ℕ → List ℕ
@@ -46,7 +46,7 @@ whole_place_of block = slice_index block 33 + 256 * slice_index block 34 + 65536
 
 -- What is shown of a control block after its file.
 abbrev pub block_text : Argument → PlainState → List ℕ
-block_text argument.Renaming w = codes " to " ++ file_text w 17
+block_text argument.Renaming w = codes " to " ++ file_text w (name_at (block_in w) 17)
 block_text argument.NextRecord w = record_text w (place_of (block_in w))
 block_text argument.ChosenRecord w = record_text w (whole_place_of (block_in w))
 block_text other w = []
@@ -55,7 +55,7 @@ abbrev pub argument_text : Argument → PlainState → List ℕ
 argument_text argument.Nothing w = []
 argument_text argument.Byte w = codes " " ++ byte_text w.core.regs.e
 argument_text argument.Word w = codes " " ++ word_text (address_in w.core.regs)
-argument_text other w = codes " " ++ file_text w 1 ++ block_text other w
+argument_text other w = codes " " ++ file_text w (name_at (block_in w) 1) ++ block_text other w
 
 -- ---- what a call returns and prints
 

@@ -3,17 +3,14 @@ use Rattle.std.specs.Prelude.{ℕ, Bool, nat_lt, List, [], ◌∷◌, ◌++◌, 
 use Rattle.std.specs.Fmt.{decimal}
 use Rattle.interaction_trees.specs.Outcome.{Outcome, Step, Stop}
 use Rattle.i8080.specs.Opcodes.{decoded}
+use Rattle.i8080.specs.Operands.{byte_count}
 use Rattle.i8080.specs.Registers.{onward}
 use Rattle.console_calls.specs.declared.cause.Cause.{Cause}
 use Rattle.machine.specs.Inputs.{Session}
 use Rattle.machine.specs.PlainState.{PlainState}
-use Rattle.mnemonics.specs.Mnemonics.{byte_count, instruction_text}
+use Rattle.mnemonics.specs.Mnemonics.{instruction_text}
 use Rattle.report_lines.specs.FirstLines.{byte_text, word_text, regs_text, line}
-use Rattle.trials.specs.Accesses.{written_cells}
-
--- An instruction is below the system area.
-abbrev pub is_instruction : PlainState → Bool
-is_instruction w = nat_lt w.core.regs.pc 0xfe00
+use Rattle.accesses.specs.Accesses.{written_cells}
 
 -- The byte of a cell.
 abbrev pub cell_in : PlainState → ℕ → ℕ

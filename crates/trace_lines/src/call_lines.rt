@@ -1,10 +1,11 @@
 // The lines of calls.
 
 ghost use Rattle.std.specs.Prelude.{◌≡◌, ◌∷◌, ◌++◌, codes, take};
+ghost use Rattle.filenames.specs.ControlBlock.{name_at};
 ghost use Rattle.machine.specs.Runs.{state_of};
 ghost use Rattle.streams.specs.Pushing.{more};
 ghost use Rattle.trace_lines.specs.CallForms.{argument_of, returned_of};
-ghost use Rattle.trace_lines.specs.CallLines.{argument_text, block_in, block_text, call_start, count_text, drive_in, file_text, printed_text, record_text, returned_text, whole_place_of};
+ghost use Rattle.trace_lines.specs.CallLines.{argument_text, block_in, block_text, call_start, count_text, drive_in, file_text, printed_text, record_text, returned_text};
 ghost use Rattle.trace_lines.specs.Texts.{name_text};
 
 use crate::escapes::push_quoted;
@@ -44,13 +45,6 @@ fn push_record<X: Text>(text: &mut X, run: &Run<'_>, number: u32)
     text.push(word_digits(run.buffer()).as_bytes())
 }
 
-// Returns the random record number, with its overflow byte.
-fn whole_place(block: &Fcb) -> u32
-    ensures { result ≡ whole_place_of block.now }
-{
-    block.random() + 65536 * u32::from(block.r2())
-}
-
 // Returns the number of the drive that the control block at DE names.
 fn drive_in(run: &Run<'_>, block: &Fcb) -> u8
     requires { block.now ≡ block_in (state_of run.now) }
@@ -63,49 +57,34 @@ fn drive_in(run: &Run<'_>, block: &Fcb) -> u8
     }
 }
 
-// Appends the file of the control block at DE.
+// Appends a file of the control block at DE, by its name there.
 #[tactic(auto, unfolding(crate::specs::CallLines::file_text))]
-fn push_file<X: Text>(text: &mut X, run: &Run<'_>, block: &Fcb)
+fn push_file<X: Text>(text: &mut X, run: &Run<'_>, block: &Fcb, name: [u8; 11])
     requires { block.now ≡ block_in (state_of run.now) }
-    ensures { X.pushed text.new ≡ more (X.pushed text.old) (file_text (state_of run.now) 1) }
+    ensures { X.pushed text.new ≡ more (X.pushed text.old) (file_text (state_of run.now) name) }
 {
-    push_name(text, &key_on(drive_in(run, block), block.key()))
-}
-
-// Appends its new name.
-#[tactic(auto, unfolding(crate::specs::CallLines::file_text))]
-fn push_new_file<X: Text>(text: &mut X, run: &Run<'_>, block: &Fcb)
-    requires { block.now ≡ block_in (state_of run.now) }
-    ensures { X.pushed text.new ≡ more (X.pushed text.old) (file_text (state_of run.now) 17) }
-{
-    push_name(text, &key_on(drive_in(run, block), block.new_key()))
-}
-
-// Appends what the line shows of the control block at DE after its file.
-fn push_rest<X: Text>(text: &mut X, run: &Run<'_>, block: &Fcb, argument: Argument)
-    requires { block.now ≡ block_in (state_of run.now) }
-    ensures { X.pushed text.new ≡ more (X.pushed text.old) (block_text argument (state_of run.now)) }
-{
-    match argument {
-        Argument::Renaming => {
-            text.push(b" to ");
-            push_new_file(text, run, block)
-        }
-        Argument::NextRecord => push_record(text, run, block.place()),
-        Argument::ChosenRecord => push_record(text, run, whole_place(block)),
-        Argument::Nothing | Argument::Byte | Argument::Word | Argument::File => (),
-    }
+    push_name(text, &key_on(drive_in(run, block), name))
 }
 
 // Appends what the line shows of the control block at DE.
 fn push_block<X: Text>(text: &mut X, run: &Run<'_>, argument: Argument)
-    ensures { let w = state_of run.now in X.pushed text.new
-        ≡ more (X.pushed text.old) (codes " " ++ file_text w 1 ++ block_text argument w) }
+    ensures { let w = state_of run.now in X.pushed text.new ≡ more (X.pushed text.old)
+        (codes " " ++ file_text w (name_at (block_in w) 1) ++ block_text argument w) }
 {
     let block = block_at(run);
     text.push(b" ");
-    push_file(text, run, &block);
-    push_rest(text, run, &block, argument)
+    push_file(text, run, &block, block.key());
+    match argument {
+        Argument::Renaming => {
+            text.push(b" to ");
+            push_file(text, run, &block, block.new_key())
+        }
+        Argument::NextRecord => push_record(text, run, block.place()),
+        Argument::ChosenRecord => {
+            push_record(text, run, block.random() + 65536 * u32::from(block.r2()))
+        }
+        Argument::Nothing | Argument::Byte | Argument::Word | Argument::File => (),
+    }
 }
 
 // Appends what the line shows of what a call is given.
@@ -125,10 +104,7 @@ fn push_argument<X: Text>(text: &mut X, run: &Run<'_>)
             text.push(b" ");
             text.push(word_digits(word_of(regs.e, regs.d)).as_bytes())
         }
-        Argument::File => push_block(text, run, argument),
-        Argument::Renaming => push_block(text, run, argument),
-        Argument::NextRecord => push_block(text, run, argument),
-        Argument::ChosenRecord => push_block(text, run, argument),
+        _ => push_block(text, run, argument),
     }
 }
 

@@ -6,13 +6,14 @@ ghost use Rattle.machine.specs.Runs.{state_of};
 ghost use Rattle.report_lines.specs.FirstLines.{byte_text};
 ghost use Rattle.streams.specs.Pushing.{more};
 ghost use Rattle.trace_lines.specs.Rows.{row};
-ghost use Rattle.trace_lines.specs.StepLines as texts;
+ghost use Rattle.trace_lines.specs.StepLines as step_lines;
 ghost use Rattle.trace_lines.specs.StepLines.{cell_in, change_text, changes_text, step_start};
 
-use crate::accesses::CellRow;
+use crate::cell_rows::CellRow;
+use i8080::byte_count;
 use itoa::Buffer;
 use machine::Run;
-use mnemonics::{byte_count, push_instruction};
+use mnemonics::push_instruction;
 use report_lines::{byte_digits, regs_words, word_digits};
 use streams::Text;
 
@@ -27,7 +28,7 @@ fn push_digits<X: Text>(text: &mut X, bytes: &[u8])
 
 // Appends the instruction that begins with three bytes: its bytes, and its text.
 fn push_code<X: Text>(text: &mut X, first: u8, second: u8, third: u8)
-    ensures { X.pushed text.new ≡ more (X.pushed text.old) (texts.code_text first second third) }
+    ensures { X.pushed text.new ≡ more (X.pushed text.old) (step_lines.code_text first second third) }
 {
     push_digits(text, &[first, second, third][..byte_count(first)]);
     text.push(b" ");

@@ -19,9 +19,10 @@ use Rattle.trace_filters.specs.declared.choice.Choice.{Choice}
 use Rattle.streams.specs.Pushing.{PushesPart, PushesText, more}
 use Rattle.streams.proofs.Pushes.{no_part, part_longer, part_pushed, part_then}
 use Rattle.tracing.specs.Walks.{EndsAt, GoesBy, IsWithin, WalksOn, Walked, kept_line, kept_text, lines_left, walked, with_lines}
-use Rattle.trace_filters.specs.Chosen.{has_line, is_call, is_chosen}
+use Rattle.trace_filters.specs.Chosen.{has_line, is_chosen}
 use Rattle.trace_lines.specs.CallLines.{call_line}
-use Rattle.trace_lines.specs.StepLines.{is_instruction, step_line}
+use Rattle.trace_lines.specs.StepLines.{step_line}
+use Rattle.machine.specs.Step.{is_call, is_instruction}
 use Rattle.tracing.specs.Trace.{line_at, line_of, lines}
 
 -- No step of a session from `from` on and below `upto` has a line.
@@ -111,23 +112,23 @@ module _ (c : Choice) (s : Session) (n : ℕ) (w : PlainState) where
   unfolding has_line is_chosen
   late h = rw (lt-leb n c.to h, and-false (nat_le c.from n)) refl
 
-  pub silent : c.instructions ≡ false → is_call w ≡ false → has_line c s n w ≡ false
+  pub silent : c.instructions ≡ false → is_call w.core ≡ false → has_line c s n w ≡ false
   unfolding has_line is_chosen
   silent h k = rw (h, k, and-false (nat_le c.from n && nat_le n c.to)) refl
 
   -- A step with a line is a call or an instruction.
-  pub is_one : has_line c s n w ≡ true → is_call w ≡ false → is_instruction w ≡ true
+  pub is_one : has_line c s n w ≡ true → is_call w.core ≡ false → is_instruction w.core ≡ true
   unfolding has_line is_chosen
   is_one has none =
       let chosen : is_chosen c n w ≡ true = (and_parts _ _ (and_parts _ _ has).0).0 in
-      let kind : (is_call w || (c.instructions && is_instruction w)) ≡ true = (and_parts _ _ (and_parts _ _ (and_parts _ _ chosen).0).0).1 in
-      (and_parts c.instructions (is_instruction w) (rw none at kind)).1
+      let kind : (is_call w.core || (c.instructions && is_instruction w.core)) ≡ true = (and_parts _ _ (and_parts _ _ (and_parts _ _ chosen).0).0).1 in
+      (and_parts c.instructions (is_instruction w.core) (rw none at kind)).1
 
-pub line_of_call : (s : Session) (n : ℕ) (w : PlainState) → is_call w ≡ true → line_of s n w ≡ call_line n w (plain_outcome s w)
+pub line_of_call : (s : Session) (n : ℕ) (w : PlainState) → is_call w.core ≡ true → line_of s n w ≡ call_line n w (plain_outcome s w)
 unfolding line_of
 line_of_call s n w is = rw is refl
 
-pub line_of_instruction : (s : Session) (n : ℕ) (w : PlainState) → is_call w ≡ false → line_of s n w ≡ step_line s n w (plain_outcome s w)
+pub line_of_instruction : (s : Session) (n : ℕ) (w : PlainState) → is_call w.core ≡ false → line_of s n w ≡ step_line s n w (plain_outcome s w)
 unfolding line_of
 line_of_instruction s n w is = rw is refl
 
@@ -221,7 +222,7 @@ module _ (c : Choice) (old new : RunView) (same : new.session ≡ old.session) (
 
 -- No step before a call has a line, if instructions have none.
 pub calls_alone : (c : Choice) (s : Session) (from upto : ℕ) → c.instructions ≡ false → MakesNoCall s from upto → HasNoLine c s from upto
-calls_alone c s from upto off calls i w low high at = silent c s i w off (ne_eqb _ _ (calls i w low high at))
+calls_alone c s from upto off calls i w low high at = silent c s i w off (calls i w low high at)
 
 -- ---- the first and the last steps
 

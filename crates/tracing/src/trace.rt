@@ -31,12 +31,11 @@ impl Writer for Nowhere {
 }
 
 // Returns why a run ended that is at its limit, or where a stop follows.
-fn cause_of(run: &Run<'_>, session: &Session, stop: Option<Cause>) -> Cause
-    requires session { run.now.session ≡ session.now }
-    requires end { EndsAt run.now run.now.session.limit stop }
-    ensures { result ≡ (plain_run session.now).cause }
+fn cause_of(run: &Run<'_>, stop: Option<Cause>) -> Cause
+    requires { EndsAt run.now run.now.session.limit stop }
+    ensures { result ≡ (plain_run run.now.session).cause }
 {
-    if run.step() == session.limit() {
+    if run.step() == run.session().limit() {
         return Cause::Limit;
     }
     stop.unwrap_or(Cause::Limit)
@@ -44,21 +43,16 @@ fn cause_of(run: &Run<'_>, session: &Session, stop: Option<Cause>) -> Cause
 
 // Returns how many lines come before the last ones. To count the lines, a run that starts is walked without pushing any: as many
 // are left out as there can be steps.
-fn lines_before_last(
-    run: &mut Run<'_>,
-    session: &Session,
-    choice: &Choice,
-    last: u64,
-) -> Result<u64, AllocError>
-    requires session { run.old.session ≡ session.now }
-    requires first { run.old.step ≡ 0 }
-    ensures { IfOk result (λ n. n ≡ length (all_lines choice.now session.now) - last) }
+fn lines_before_last(run: &mut Run<'_>, choice: &Choice, last: u64) -> Result<u64, AllocError>
+    requires { run.old.step ≡ 0 }
+    ensures { IfOk result (λ n. n ≡ length (all_lines choice.now run.old.session) - last) }
 {
     let mut nowhere = Nowhere;
     let mut text = TextOver::new(&mut nowhere);
-    let mut walker = Walker::new(session.limit());
-    walk(run, session, choice, &mut walker, &mut text)?;
-    let count = session.limit().saturating_sub(walker.skip);
+    let limit = run.session().limit();
+    let mut walker = Walker::new(limit);
+    walk(run, choice, &mut walker, &mut text)?;
+    let count = limit.saturating_sub(walker.skip);
     Ok(count.saturating_sub(last))
 }
 
@@ -71,28 +65,26 @@ fn lines_to_skip(alloc: Global, session: &Session, choice: &Choice) -> Result<u6
         return Ok(0);
     };
     let mut run = Run::start(alloc, session, Noting::Nothing)?;
-    lines_before_last(&mut run, session, choice, last)
+    lines_before_last(&mut run, choice, last)
 }
 
 // Pushes the lines of a run that starts, without the first `skip` ones, and then the line of its stop. If sending fails, it ends early.
 fn push_rest<X: Text>(
     run: &mut Run<'_>,
-    session: &Session,
     choice: &Choice,
     skip: u64,
     text: &mut X,
 ) -> Result<(), AllocError>
-    requires session { run.old.session ≡ session.now }
-    requires first { run.old.step ≡ 0 }
+    requires { run.old.step ≡ 0 }
     ensures { PushesUnless (X.failed text.new) (X.pushed text.old) (X.pushed text.new)
-        (text_after choice.now session.now skip) result }
+        (text_after choice.now run.old.session skip) result }
 {
     let mut walker = Walker::new(skip);
-    let stop = walk(run, session, choice, &mut walker, text)?;
+    let stop = walk(run, choice, &mut walker, text)?;
     if text.has_failed() {
         return Ok(());
     }
-    text.push(stop_line(cause_of(run, session, stop)).as_bytes());
+    text.push(stop_line(cause_of(run, stop)).as_bytes());
     Ok(())
 }
 
@@ -108,7 +100,7 @@ fn push_trace<X: Text>(
 {
     let skip = lines_to_skip(alloc, session, choice)?;
     let mut run = Run::start(alloc, session, Noting::Nothing)?;
-    push_rest(&mut run, session, choice, skip, text)
+    push_rest(&mut run, choice, skip, text)
 }
 
 /// Writes the lines of the chosen steps of a session, in order, and then the line of its stop. The lines are sent at the latest after each

@@ -7,15 +7,15 @@ ghost use Rattle.machine.specs.PlainState.{plain_outcome};
 ghost use Rattle.machine.specs.Runs.{Leads, state_of};
 ghost use Rattle.streams.specs.Pushing.{PushesText};
 ghost use Rattle.trace_lines.specs.CallLines.{call_line};
-ghost use Rattle.trace_lines.specs.StepLines.{is_instruction, step_line};
-ghost use Rattle.trace_filters.specs.Chosen.{is_call};
+ghost use Rattle.trace_lines.specs.StepLines.{step_line};
+ghost use Rattle.machine.specs.Step.{is_call, is_instruction};
 ghost use Rattle.tracing.specs.Trace.{line_of};
 ghost use Rattle.tracing.specs.Walks.{EndsAt, GoesBy, WalksOn, kept_line, lines_left, walked};
 
-use machine::{Cause, Run, STEP_LIMIT, Session};
+use machine::{Cause, Run, STEP_LIMIT};
 use std::alloc::AllocError;
 use streams::{STEPS_UNTIL_TEXT, Text};
-use trace_filters::{Choice, Trials, has_line};
+use trace_filters::{Choice, SpareMemory, has_line};
 use trace_lines::{
     bytes_of, push_call_end, push_call_start, push_changes, push_step_start, written_row,
 };
@@ -25,7 +25,7 @@ use trace_lines::{
 pub struct Walker {
     /// How many of the next chosen lines are left out.
     pub skip: u64,
-    trials: Trials,
+    spare: SpareMemory,
 }
 
 impl Walker {
@@ -35,7 +35,7 @@ impl Walker {
     {
         Walker {
             skip,
-            trials: Trials::new(),
+            spare: SpareMemory::new(),
         }
     }
 }
@@ -72,7 +72,7 @@ fn push_call<X: Text>(run: &mut Run<'_>, text: &mut X) -> Result<Option<Cause>, 
 fn push_instruction<X: Text>(run: &mut Run<'_>, text: &mut X) -> Result<Option<Cause>, AllocError>
     requires below { run.old.step < run.old.session.limit }
     requires most { run.old.session.limit ≤ STEP_LIMIT }
-    requires instruction { is_instruction (state_of run.old) ≡ true }
+    requires instruction { is_instruction (state_of run.old).core ≡ true }
     ensures session { run.new.session ≡ run.old.session }
     ensures leads { IfOk result (λ stop. Leads run.old run.new stop) }
     ensures line { let w = state_of run.old in PushesText (X.pushed text.old) (X.pushed text.new)
@@ -97,7 +97,7 @@ fn push_chosen<X: Text>(
 ) -> Result<Option<Cause>, AllocError>
     requires below { run.old.step < run.old.session.limit }
     requires most { run.old.session.limit ≤ STEP_LIMIT }
-    requires kind { let w = state_of run.old in is_call w ≡ false → is_instruction w ≡ true }
+    requires kind { let w = state_of run.old in is_call w.core ≡ false → is_instruction w.core ≡ true }
     ensures session { run.new.session ≡ run.old.session }
     ensures leads { IfOk result (λ stop. Leads run.old run.new stop) }
     ensures line { PushesText (X.pushed text.old) (X.pushed text.new)
@@ -117,12 +117,10 @@ fn push_chosen<X: Text>(
 // Executes a step, and pushes its line if it is chosen and not left out.
 fn push_step<X: Text>(
     run: &mut Run<'_>,
-    session: &Session,
     choice: &Choice,
     walker: &mut Walker,
     text: &mut X,
 ) -> Result<Option<Cause>, AllocError>
-    requires session { run.old.session ≡ session.now }
     requires at { plain_after run.old.session run.old.step ≡ Some (state_of run.old) }
     requires below { run.old.step < run.old.session.limit }
     requires most { run.old.session.limit ≤ STEP_LIMIT }
@@ -131,7 +129,7 @@ fn push_step<X: Text>(
     ensures lines { WalksOn choice.now run.old (walked (X.pushed text.old) walker.old.skip)
         run.new (walked (X.pushed text.new) walker.new.skip) result }
 {
-    if has_line(run, session, choice, &mut walker.trials)? {
+    if has_line(run, choice, &mut walker.spare)? {
         return push_chosen(run, &mut walker.skip, text);
     }
     run.take_step()
@@ -141,13 +139,11 @@ fn push_step<X: Text>(
 // instructions only calls have lines.
 fn push_next<X: Text>(
     run: &mut Run<'_>,
-    session: &Session,
     choice: &Choice,
     end: u64,
     walker: &mut Walker,
     text: &mut X,
 ) -> Result<Option<Cause>, AllocError>
-    requires session { run.old.session ≡ session.now }
     requires at { plain_after run.old.session run.old.step ≡ Some (state_of run.old) }
     requires valid { IsSession run.old.session }
     requires below { (run.old.step < end) × (end ≤ run.old.session.limit) }
@@ -158,7 +154,7 @@ fn push_next<X: Text>(
         run.new (walked (X.pushed text.new) walker.new.skip) result }
 {
     if choice.instructions {
-        return push_step(run, session, choice, walker, text);
+        return push_step(run, choice, walker, text);
     }
     if let Some(cause) = run.advance_to_call(end)? {
         return Ok(Some(cause));
@@ -166,7 +162,7 @@ fn push_next<X: Text>(
     if run.step() == end {
         return Ok(None);
     }
-    push_step(run, session, choice, walker, text)
+    push_step(run, choice, walker, text)
 }
 
 // Sends a text if it is due at a step, and returns the step at which it is due next.
@@ -185,13 +181,11 @@ fn send_if_due<X: Text>(text: &mut X, step: u64, due: u64) -> u64
 // Walks on up to step `end` or to a stop, and pushes and sends the lines of the chosen steps. If sending fails, it ends early.
 fn push_lines<X: Text>(
     run: &mut Run<'_>,
-    session: &Session,
     choice: &Choice,
     end: u64,
     walker: &mut Walker,
     text: &mut X,
 ) -> Result<Option<Cause>, AllocError>
-    requires session { run.old.session ≡ session.now }
     requires within { (run.old.step ≤ end) × (end ≤ run.old.session.limit) }
     requires most { run.old.session.limit ≤ STEP_LIMIT }
     ensures session { run.new.session ≡ run.old.session }
@@ -203,7 +197,7 @@ fn push_lines<X: Text>(
     let mut due = 0;
     while stop.is_none() && run.step() < end && !text.has_failed() {
         due = send_if_due(text, run.step(), due);
-        stop = push_next(run, session, choice, end.min(due), walker, text)?;
+        stop = push_next(run, choice, end.min(due), walker, text)?;
     }
     Ok(stop)
 }
@@ -234,12 +228,10 @@ fn skip_early(run: &mut Run<'_>, choice: &Choice, to: u64) -> Result<Option<Caus
 /// Returns `Err` if an allocation fails. A prefix of the lines is then pushed.
 pub fn walk<X: Text>(
     run: &mut Run<'_>,
-    session: &Session,
     choice: &Choice,
     walker: &mut Walker,
     text: &mut X,
 ) -> Result<Option<Cause>, AllocError>
-    requires session { run.old.session ≡ session.now }
     requires first { run.old.step ≡ 0 }
     ensures session { run.new.session ≡ run.old.session }
     ensures ends { let r = run.new in
@@ -247,12 +239,12 @@ pub fn walk<X: Text>(
     ensures lines { WalksOn choice.now run.old (walked (X.pushed text.old) walker.old.skip)
         run.new (walked (X.pushed text.new) walker.new.skip) result }
 {
-    let limit = session.limit();
+    let limit = run.session().limit();
     let end = limit.min(choice.to.saturating_add(1));
     if let Some(cause) = skip_early(run, choice, end.min(choice.from))? {
         return Ok(Some(cause));
     }
-    if let Some(cause) = push_lines(run, session, choice, end, walker, text)? {
+    if let Some(cause) = push_lines(run, choice, end, walker, text)? {
         return Ok(Some(cause));
     }
     text.flush();

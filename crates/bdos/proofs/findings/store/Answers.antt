@@ -6,8 +6,8 @@ use Rattle.bdos.proofs.Parts.{extends_same}
 use Rattle.bdos.proofs.findings.store.Goals as goal
 
 pub returns : goal.returns
-returns g c script = after_read script _ _ _ (read_at 128 _ _ c.buffer.ensures c.fetch_cells.ensures.reads)
-    (goes_back 0 c.args.desk.now.desk.spot _ _ _ c.return_to.ensures refl (search rules) (search rules) (search rules) (search rules) (search rules) (search rules) (search rules) (search rules) (λ j. refl))
+returns g c script = rw c.returned.ensures.went (after_read script _ _ _ (read_at 128 _ _ c.buffer.ensures c.fetch_cells.ensures.reads)
+    (goes_back 0 c.args.desk.now.desk.spot _ _ _ c.returned.ensures.regs refl (search rules) (search rules) (search rules) (search rules) (search rules) (search rules) (search rules) (search rules) (λ j. refl)))
 
 pub returns-in_err-ready_place : goal.returns-in_err-ready_place
 returns-in_err-ready_place g c script =

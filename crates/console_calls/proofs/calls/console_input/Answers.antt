@@ -6,4 +6,4 @@ pub returns-in_default-clause-makes : goal.returns-in_default-clause-makes
 returns-in_default-clause-makes g c = input_ends c.args.script.now (search rules) (search rules) refl refl (search rules)
 
 pub returns-clause-makes : goal.returns-clause-makes
-returns-clause-makes g c = input_goes c.args.script.now (search rules) c.fetch_word-to.ensures.reads _ (search rules) c.return_to.ensures (search rules)
+returns-clause-makes g c = rw c.completed.ensures.went (input_goes c.args.script.now (search rules) c.completed.ensures.reads _ (search rules) c.completed.ensures.regs (search rules))

@@ -1,6 +1,6 @@
 use Rattle.std.proofs.Common.{◌≡◌, true, false, rules}
 use Rattle.std.proofs.lemmas.Result.{err_from_is_err_and}
-use Rattle.filenames.specs.Names.{is_sayable}
+use Rattle.hostfiles.specs.Names.{is_sayable}
 use Rattle.hostfiles.specs.Hosts.{Key}
 use Rattle.hostfiles.specs.Files.{OwnFiles}
 use Rattle.hostfiles.specs.FileLooks.{HasNewAsk, KeepsAsks, look_has}

@@ -1,6 +1,5 @@
-use Rattle.std.proofs.Common.{rules, ap, ◌∙◌}
+use Rattle.std.proofs.Common.{rules}
 use Rattle.std.proofs.lemmas.Result.{err_from_is_err_and}
-use Rattle.hostfiles.specs.FileView.{view_own}
 use Rattle.cpmfiles.proofs.LookLaws.{new_read, within_read}
 use Rattle.cpmfiles.proofs.asking.read.Goals as goal
 

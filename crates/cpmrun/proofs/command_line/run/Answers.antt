@@ -14,12 +14,12 @@ returns-in_default-clause-fault g c =
     let are = rw c.in-Session.is at c.in_ok-words.ensures.request in
     run_broken (by_runner c.args.meter.now) _ c.in-Session.words are _ _ _ _ c.run_words.result c.in_default.is c.run_words.ensures.fault
 
-pub returns-in_err-session-clause-fault : goal.returns-in_err-session-clause-fault
-returns-in_err-session-clause-fault g c =
+pub returns-in_err-loaded-clause-fault : goal.returns-in_err-loaded-clause-fault
+returns-in_err-loaded-clause-fault g c =
     let are = rw c.in-Session.is at c.in_ok-words.ensures.request in
-    let left = err_from_is_err_and c.from_residual-in_err-session.result c.from_residual-in_err-session.ensures.1 in
+    let left = err_from_is_err_and c.from_residual-in_err-loaded.result c.from_residual-in_err-loaded.ensures.1 in
     rw (left.1, left.2) (replay_broken (by_runner c.args.meter.now) _ c.in-Session.words are _ _ _ _ c.in-Some.path _ c.in-Some.is
-    (λ old new. inr (tt, inl ((rw c.session.ensures at c.in_err-session.ensures.fault), (refl, c.in_err-session.ensures.unchanged.bytes)))))
+    (λ old new. inr (tt, inl ((rw c.session.ensures at c.in_err-loaded.ensures.fault), (refl, c.in_err-loaded.ensures.unchanged.bytes)))))
 
 pub returns-in_err-replay_file-clause-fault : goal.returns-in_err-replay_file-clause-fault
 returns-in_err-replay_file-clause-fault g c =
@@ -29,11 +29,11 @@ returns-in_err-replay_file-clause-fault g c =
     rw (left.1, left.2) (replay_broken (by_runner c.replay_file.new.meter) _ c.in-Session.words are _ _ _ _ c.in-Some.path _ c.in-Some.is (λ old new. inr (
       tt,
       inr (
-        c.in_ok-session.field-0.session,
-        c.in_ok-session.field-0.listings,
-        (rw c.session.ensures at c.in_ok-session.ensures.session),
-        (rw c.session.ensures at c.in_ok-session.ensures.names),
-        ((rw c.load.ensures.unchanged.bytes at c.in_err-replay_file.ensures.fault), same),
+        c.in_ok-loaded.loaded.session,
+        c.in_ok-loaded.loaded.listings,
+        (rw c.session.ensures at c.in_ok-loaded.ensures.session),
+        (rw c.session.ensures at c.in_ok-loaded.ensures.names),
+        ((rw (c.load.ensures.unchanged.bytes, c.into_session-session.ensures) at c.in_err-replay_file.ensures.fault), same),
       ),
     )))
 
@@ -41,13 +41,13 @@ pub returns-clause-done : goal.returns-clause-done
 returns-clause-done g c =
     let are = rw c.in-Session.is at c.in_ok-words.ensures.request in
     let same = c.replay_file.ensures.unchanged.bytes ∙ c.load.ensures.unchanged.bytes in
-    let failed = c.in_ok-replay_file.ensures.unchanged.failed ∙ c.in_ok-session.ensures.unchanged.failed in
+    let failed = c.in_ok-replay_file.ensures.unchanged.failed ∙ c.in_ok-loaded.ensures.unchanged.failed in
     replayed (by_runner c.replay_file.new.meter) _ c.in-Session.words are c.in-Some.path _ _ c.in-Some.is failed (record {
       allowed = tt;
-      s = c.in_ok-session.field-0.session;
-      of = rw c.session.ensures at c.in_ok-session.ensures.session;
-      listings = c.in_ok-session.field-0.listings;
-      listed = rw c.session.ensures at c.in_ok-session.ensures.names;
+      s = c.in_ok-loaded.loaded.session;
+      of = rw c.session.ensures at c.in_ok-loaded.ensures.session;
+      listings = c.in_ok-loaded.loaded.listings;
+      listed = rw c.session.ensures at c.in_ok-loaded.ensures.names;
       exits = refl;
-      done = (refl, same, rw (c.load.ensures.unchanged.bytes, c.options.ensures) at c.in_ok-replay_file.ensures.done);
+      done = (refl, same, rw (c.load.ensures.unchanged.bytes, c.options.ensures, c.into_session-session.ensures) at c.in_ok-replay_file.ensures.done);
     })

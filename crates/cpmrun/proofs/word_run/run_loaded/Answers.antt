@@ -4,7 +4,7 @@ use Rattle.dependencies.proofs.DecideLemmas.{are_dependencies}
 use Rattle.folders.proofs.FilesLemmas.{same_files}
 use Rattle.folders.specs.declared.places.Places.{Places}
 use Rattle.one_run.specs.RunTexts.{stop_status}
-use Rattle.one_run.specs.World.{world}
+use Rattle.requests.specs.World.{world}
 use Rattle.cpmrun.proofs.word_run.run_loaded.Goals as goal
 
 pub finish-requires-clause-run : goal.finish-requires-clause-run

@@ -10,7 +10,7 @@ use Rattle.dependency_lines.proofs.places.push_each.Given as goal
 -- The lines of the other rows are left.
 abbrev pub invariant-loop-row : goal.invariant-loop-row
 invariant-loop-row g l =
-    let lines = λ (from : ℕ). concat (map (row_line l.format (head_text l.head)) (rows_from ByStep (g.T.StepTable.steps l.table) from)) in
+    let lines = λ (from : ℕ). concat (map (row_line l.head.format (head_text l.head)) (rows_from ByStep (g.T.StepTable.steps l.table) from)) in
     more (g.X.Text.pushed l.text) (lines l.from) ≡ more (g.X.Text.pushed l.initial.text) (lines l.initial.from)
 
 abbrev pub decreases-loop-row : goal.decreases-loop-row

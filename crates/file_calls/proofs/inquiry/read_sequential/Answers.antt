@@ -1,7 +1,7 @@
 use Rattle.std.proofs.Common.{◌≡◌, true, length, nat_lt, sym, ap, subst, ◌∙◌, rules, arith}
 use Rattle.std.proofs.lemmas.Bool.{lt-ltb}
 use Rattle.std.proofs.lemmas.Result.{err_from_is_err_and}
-use Rattle.filenames.specs.ControlBlock.{place_of}
+use Rattle.hostfiles.specs.ControlBlock.{place_of}
 use Rattle.hostfiles.specs.Files.{has}
 use Rattle.hostfiles.specs.FileLooks.{HasNewAsk, KeepsAsks, look_has, look_length, look_content}
 use Rattle.hostfiles.specs.declared.looks.FileLooks.{FileLooks}

@@ -73,55 +73,55 @@ moved g c =
       | in-60 w ↦ does (Inr (InRegister A)) _ _ _ w.in-60.is w.next-is w.regs-is w.bus-is w.inr-next-in-60.ensures
       | in-61 w ↦ does (Dcr (InRegister A)) _ _ _ w.in-61.is w.next-is w.regs-is w.bus-is w.dcr-next-in-61.ensures
       | in-62 w ↦ does (Mvi (InRegister A)) _ _ _ w.in-62.is w.next-is w.regs-is w.bus-is w.mvi-next-in-62.ensures
-      | in-65 w ↦ does (Mov B (InRegister C)) _ _ _ w.in-65.is w.next-is w.regs-is w.bus-is w.to_b-next.ensures
-      | in-66 w ↦ does (Mov B (InRegister D)) _ _ _ w.in-66.is w.next-is w.regs-is w.bus-is w.to_b-next-in-66.ensures
-      | in-67 w ↦ does (Mov B (InRegister E)) _ _ _ w.in-67.is w.next-is w.regs-is w.bus-is w.to_b-next-in-67.ensures
-      | in-68 w ↦ does (Mov B (InRegister H)) _ _ _ w.in-68.is w.next-is w.regs-is w.bus-is w.to_b-next-in-68.ensures
-      | in-70 w ↦ does (Mov B AtHl) _ _ _ w.in-70.is w.next-is w.regs-is w.bus-is w.to_b-next-in-70.ensures
-      | in-71 w ↦ does (Mov B (InRegister A)) _ _ _ w.in-71.is w.next-is w.regs-is w.bus-is w.to_b-next-in-71.ensures
-      | in-72 w ↦ does (Mov C (InRegister B)) _ _ _ w.in-72.is w.next-is w.regs-is w.bus-is w.to_c-next.ensures
-      | in-74 w ↦ does (Mov C (InRegister D)) _ _ _ w.in-74.is w.next-is w.regs-is w.bus-is w.to_c-next-in-74.ensures
-      | in-75 w ↦ does (Mov C (InRegister E)) _ _ _ w.in-75.is w.next-is w.regs-is w.bus-is w.to_c-next-in-75.ensures
-      | in-76 w ↦ does (Mov C (InRegister H)) _ _ _ w.in-76.is w.next-is w.regs-is w.bus-is w.to_c-next-in-76.ensures
-      | in-77 w ↦ does (Mov C (InRegister L)) _ _ _ w.in-77.is w.next-is w.regs-is w.bus-is w.to_c-next-in-77.ensures
-      | in-78 w ↦ does (Mov C AtHl) _ _ _ w.in-78.is w.next-is w.regs-is w.bus-is w.to_c-next-in-78.ensures
-      | in-79 w ↦ does (Mov C (InRegister A)) _ _ _ w.in-79.is w.next-is w.regs-is w.bus-is w.to_c-next-in-79.ensures
-      | in-80 w ↦ does (Mov D (InRegister B)) _ _ _ w.in-80.is w.next-is w.regs-is w.bus-is w.to_d-next.ensures
-      | in-81 w ↦ does (Mov D (InRegister C)) _ _ _ w.in-81.is w.next-is w.regs-is w.bus-is w.to_d-next-in-81.ensures
-      | in-83 w ↦ does (Mov D (InRegister E)) _ _ _ w.in-83.is w.next-is w.regs-is w.bus-is w.to_d-next-in-83.ensures
-      | in-84 w ↦ does (Mov D (InRegister H)) _ _ _ w.in-84.is w.next-is w.regs-is w.bus-is w.to_d-next-in-84.ensures
-      | in-86 w ↦ does (Mov D AtHl) _ _ _ w.in-86.is w.next-is w.regs-is w.bus-is w.to_d-next-in-86.ensures
-      | in-87 w ↦ does (Mov D (InRegister A)) _ _ _ w.in-87.is w.next-is w.regs-is w.bus-is w.to_d-next-in-87.ensures
-      | in-88 w ↦ does (Mov E (InRegister B)) _ _ _ w.in-88.is w.next-is w.regs-is w.bus-is w.to_e-next.ensures
-      | in-89 w ↦ does (Mov E (InRegister C)) _ _ _ w.in-89.is w.next-is w.regs-is w.bus-is w.to_e-next-in-89.ensures
-      | in-90 w ↦ does (Mov E (InRegister D)) _ _ _ w.in-90.is w.next-is w.regs-is w.bus-is w.to_e-next-in-90.ensures
-      | in-92 w ↦ does (Mov E (InRegister H)) _ _ _ w.in-92.is w.next-is w.regs-is w.bus-is w.to_e-next-in-92.ensures
-      | in-93 w ↦ does (Mov E (InRegister L)) _ _ _ w.in-93.is w.next-is w.regs-is w.bus-is w.to_e-next-in-93.ensures
-      | in-94 w ↦ does (Mov E AtHl) _ _ _ w.in-94.is w.next-is w.regs-is w.bus-is w.to_e-next-in-94.ensures
-      | in-95 w ↦ does (Mov E (InRegister A)) _ _ _ w.in-95.is w.next-is w.regs-is w.bus-is w.to_e-next-in-95.ensures
-      | in-96 w ↦ does (Mov H (InRegister B)) _ _ _ w.in-96.is w.next-is w.regs-is w.bus-is w.to_h-next.ensures
-      | in-97 w ↦ does (Mov H (InRegister C)) _ _ _ w.in-97.is w.next-is w.regs-is w.bus-is w.to_h-next-in-97.ensures
-      | in-98 w ↦ does (Mov H (InRegister D)) _ _ _ w.in-98.is w.next-is w.regs-is w.bus-is w.to_h-next-in-98.ensures
-      | in-102 w ↦ does (Mov H AtHl) _ _ _ w.in-102.is w.next-is w.regs-is w.bus-is w.to_h-next-in-102.ensures
-      | in-103 w ↦ does (Mov H (InRegister A)) _ _ _ w.in-103.is w.next-is w.regs-is w.bus-is w.to_h-next-in-103.ensures
-      | in-104 w ↦ does (Mov L (InRegister B)) _ _ _ w.in-104.is w.next-is w.regs-is w.bus-is w.to_l-next.ensures
-      | in-105 w ↦ does (Mov L (InRegister C)) _ _ _ w.in-105.is w.next-is w.regs-is w.bus-is w.to_l-next-in-105.ensures
-      | in-106 w ↦ does (Mov L (InRegister D)) _ _ _ w.in-106.is w.next-is w.regs-is w.bus-is w.to_l-next-in-106.ensures
-      | in-107 w ↦ does (Mov L (InRegister E)) _ _ _ w.in-107.is w.next-is w.regs-is w.bus-is w.to_l-next-in-107.ensures
-      | in-110 w ↦ does (Mov L AtHl) _ _ _ w.in-110.is w.next-is w.regs-is w.bus-is w.to_l-next-in-110.ensures
-      | in-111 w ↦ does (Mov L (InRegister A)) _ _ _ w.in-111.is w.next-is w.regs-is w.bus-is w.to_l-next-in-111.ensures
+      | in-65 w ↦ does (Mov B (InRegister C)) _ _ _ w.in-65.is w.next-is w.regs-is w.bus-is w.mov-next.ensures
+      | in-66 w ↦ does (Mov B (InRegister D)) _ _ _ w.in-66.is w.next-is w.regs-is w.bus-is w.mov-next-in-66.ensures
+      | in-67 w ↦ does (Mov B (InRegister E)) _ _ _ w.in-67.is w.next-is w.regs-is w.bus-is w.mov-next-in-67.ensures
+      | in-68 w ↦ does (Mov B (InRegister H)) _ _ _ w.in-68.is w.next-is w.regs-is w.bus-is w.mov-next-in-68.ensures
+      | in-70 w ↦ does (Mov B AtHl) _ _ _ w.in-70.is w.next-is w.regs-is w.bus-is w.mov-next-in-70.ensures
+      | in-71 w ↦ does (Mov B (InRegister A)) _ _ _ w.in-71.is w.next-is w.regs-is w.bus-is w.mov-next-in-71.ensures
+      | in-72 w ↦ does (Mov C (InRegister B)) _ _ _ w.in-72.is w.next-is w.regs-is w.bus-is w.mov-next-in-72.ensures
+      | in-74 w ↦ does (Mov C (InRegister D)) _ _ _ w.in-74.is w.next-is w.regs-is w.bus-is w.mov-next-in-74.ensures
+      | in-75 w ↦ does (Mov C (InRegister E)) _ _ _ w.in-75.is w.next-is w.regs-is w.bus-is w.mov-next-in-75.ensures
+      | in-76 w ↦ does (Mov C (InRegister H)) _ _ _ w.in-76.is w.next-is w.regs-is w.bus-is w.mov-next-in-76.ensures
+      | in-77 w ↦ does (Mov C (InRegister L)) _ _ _ w.in-77.is w.next-is w.regs-is w.bus-is w.mov-next-in-77.ensures
+      | in-78 w ↦ does (Mov C AtHl) _ _ _ w.in-78.is w.next-is w.regs-is w.bus-is w.mov-next-in-78.ensures
+      | in-79 w ↦ does (Mov C (InRegister A)) _ _ _ w.in-79.is w.next-is w.regs-is w.bus-is w.mov-next-in-79.ensures
+      | in-80 w ↦ does (Mov D (InRegister B)) _ _ _ w.in-80.is w.next-is w.regs-is w.bus-is w.mov-next-in-80.ensures
+      | in-81 w ↦ does (Mov D (InRegister C)) _ _ _ w.in-81.is w.next-is w.regs-is w.bus-is w.mov-next-in-81.ensures
+      | in-83 w ↦ does (Mov D (InRegister E)) _ _ _ w.in-83.is w.next-is w.regs-is w.bus-is w.mov-next-in-83.ensures
+      | in-84 w ↦ does (Mov D (InRegister H)) _ _ _ w.in-84.is w.next-is w.regs-is w.bus-is w.mov-next-in-84.ensures
+      | in-86 w ↦ does (Mov D AtHl) _ _ _ w.in-86.is w.next-is w.regs-is w.bus-is w.mov-next-in-86.ensures
+      | in-87 w ↦ does (Mov D (InRegister A)) _ _ _ w.in-87.is w.next-is w.regs-is w.bus-is w.mov-next-in-87.ensures
+      | in-88 w ↦ does (Mov E (InRegister B)) _ _ _ w.in-88.is w.next-is w.regs-is w.bus-is w.mov-next-in-88.ensures
+      | in-89 w ↦ does (Mov E (InRegister C)) _ _ _ w.in-89.is w.next-is w.regs-is w.bus-is w.mov-next-in-89.ensures
+      | in-90 w ↦ does (Mov E (InRegister D)) _ _ _ w.in-90.is w.next-is w.regs-is w.bus-is w.mov-next-in-90.ensures
+      | in-92 w ↦ does (Mov E (InRegister H)) _ _ _ w.in-92.is w.next-is w.regs-is w.bus-is w.mov-next-in-92.ensures
+      | in-93 w ↦ does (Mov E (InRegister L)) _ _ _ w.in-93.is w.next-is w.regs-is w.bus-is w.mov-next-in-93.ensures
+      | in-94 w ↦ does (Mov E AtHl) _ _ _ w.in-94.is w.next-is w.regs-is w.bus-is w.mov-next-in-94.ensures
+      | in-95 w ↦ does (Mov E (InRegister A)) _ _ _ w.in-95.is w.next-is w.regs-is w.bus-is w.mov-next-in-95.ensures
+      | in-96 w ↦ does (Mov H (InRegister B)) _ _ _ w.in-96.is w.next-is w.regs-is w.bus-is w.mov-next-in-96.ensures
+      | in-97 w ↦ does (Mov H (InRegister C)) _ _ _ w.in-97.is w.next-is w.regs-is w.bus-is w.mov-next-in-97.ensures
+      | in-98 w ↦ does (Mov H (InRegister D)) _ _ _ w.in-98.is w.next-is w.regs-is w.bus-is w.mov-next-in-98.ensures
+      | in-102 w ↦ does (Mov H AtHl) _ _ _ w.in-102.is w.next-is w.regs-is w.bus-is w.mov-next-in-102.ensures
+      | in-103 w ↦ does (Mov H (InRegister A)) _ _ _ w.in-103.is w.next-is w.regs-is w.bus-is w.mov-next-in-103.ensures
+      | in-104 w ↦ does (Mov L (InRegister B)) _ _ _ w.in-104.is w.next-is w.regs-is w.bus-is w.mov-next-in-104.ensures
+      | in-105 w ↦ does (Mov L (InRegister C)) _ _ _ w.in-105.is w.next-is w.regs-is w.bus-is w.mov-next-in-105.ensures
+      | in-106 w ↦ does (Mov L (InRegister D)) _ _ _ w.in-106.is w.next-is w.regs-is w.bus-is w.mov-next-in-106.ensures
+      | in-107 w ↦ does (Mov L (InRegister E)) _ _ _ w.in-107.is w.next-is w.regs-is w.bus-is w.mov-next-in-107.ensures
+      | in-110 w ↦ does (Mov L AtHl) _ _ _ w.in-110.is w.next-is w.regs-is w.bus-is w.mov-next-in-110.ensures
+      | in-111 w ↦ does (Mov L (InRegister A)) _ _ _ w.in-111.is w.next-is w.regs-is w.bus-is w.mov-next-in-111.ensures
       | in-112 w ↦ does (MovToMemory B) _ _ _ w.in-112.is w.next-is w.regs-is w.bus-is w.mov_to_memory-next.ensures
       | in-113 w ↦ does (MovToMemory C) _ _ _ w.in-113.is w.next-is w.regs-is w.bus-is w.mov_to_memory-next-in-113.ensures
       | in-114 w ↦ does (MovToMemory D) _ _ _ w.in-114.is w.next-is w.regs-is w.bus-is w.mov_to_memory-next-in-114.ensures
       | in-115 w ↦ does (MovToMemory E) _ _ _ w.in-115.is w.next-is w.regs-is w.bus-is w.mov_to_memory-next-in-115.ensures
       | in-119 w ↦ does (MovToMemory A) _ _ _ w.in-119.is w.next-is w.regs-is w.bus-is w.mov_to_memory-next-in-119.ensures
-      | in-120 w ↦ does (Mov A (InRegister B)) _ _ _ w.in-120.is w.next-is w.regs-is w.bus-is w.to_a-next.ensures
-      | in-121 w ↦ does (Mov A (InRegister C)) _ _ _ w.in-121.is w.next-is w.regs-is w.bus-is w.to_a-next-in-121.ensures
-      | in-122 w ↦ does (Mov A (InRegister D)) _ _ _ w.in-122.is w.next-is w.regs-is w.bus-is w.to_a-next-in-122.ensures
-      | in-123 w ↦ does (Mov A (InRegister E)) _ _ _ w.in-123.is w.next-is w.regs-is w.bus-is w.to_a-next-in-123.ensures
-      | in-124 w ↦ does (Mov A (InRegister H)) _ _ _ w.in-124.is w.next-is w.regs-is w.bus-is w.to_a-next-in-124.ensures
-      | in-125 w ↦ does (Mov A (InRegister L)) _ _ _ w.in-125.is w.next-is w.regs-is w.bus-is w.to_a-next-in-125.ensures
-      | in-126 w ↦ does (Mov A AtHl) _ _ _ w.in-126.is w.next-is w.regs-is w.bus-is w.to_a-next-in-126.ensures
+      | in-120 w ↦ does (Mov A (InRegister B)) _ _ _ w.in-120.is w.next-is w.regs-is w.bus-is w.mov-next-in-120.ensures
+      | in-121 w ↦ does (Mov A (InRegister C)) _ _ _ w.in-121.is w.next-is w.regs-is w.bus-is w.mov-next-in-121.ensures
+      | in-122 w ↦ does (Mov A (InRegister D)) _ _ _ w.in-122.is w.next-is w.regs-is w.bus-is w.mov-next-in-122.ensures
+      | in-123 w ↦ does (Mov A (InRegister E)) _ _ _ w.in-123.is w.next-is w.regs-is w.bus-is w.mov-next-in-123.ensures
+      | in-124 w ↦ does (Mov A (InRegister H)) _ _ _ w.in-124.is w.next-is w.regs-is w.bus-is w.mov-next-in-124.ensures
+      | in-125 w ↦ does (Mov A (InRegister L)) _ _ _ w.in-125.is w.next-is w.regs-is w.bus-is w.mov-next-in-125.ensures
+      | in-126 w ↦ does (Mov A AtHl) _ _ _ w.in-126.is w.next-is w.regs-is w.bus-is w.mov-next-in-126.ensures
       | in-128 w ↦ does (Accumulate Add (At (InRegister B))) _ _ _ w.in-128.is w.next-is w.regs-is w.bus-is w.add-next.ensures
       | in-129 w ↦ does (Accumulate Add (At (InRegister C))) _ _ _ w.in-129.is w.next-is w.regs-is w.bus-is w.add-next-in-129.ensures
       | in-130 w ↦ does (Accumulate Add (At (InRegister D))) _ _ _ w.in-130.is w.next-is w.regs-is w.bus-is w.add-next-in-130.ensures

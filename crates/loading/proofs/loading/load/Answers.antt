@@ -1,3 +1,4 @@
+use Rattle.std.proofs.Common.{◌≡◌, ◌∙◌}
 use Rattle.std.proofs.lemmas.Result.{err_from_is_err_and}
 use Rattle.folders.proofs.FilesLemmas.{same_files}
 use Rattle.loading.proofs.Refusing.{badly_typed, folders_unread, loaded_of_words, program_unread, refused_of_words, script_unread, well_typed}
@@ -5,18 +6,20 @@ use Rattle.loading.proofs.loading.load.Goals as goal
 
 pub returns-clause-session : goal.returns-clause-session
 returns-clause-session g c =
+    let tail : c.in_ok-tail.tail.items ≡ c.args.words.now.tail.now = c.in_ok-tail.ensures.items_if_clones_equal (λ x y e. e) ∙ c.as_bytes.ensures.value in
     loaded_of_words (g.S.FileSystem.files c.args.system.now) c.args.words.now c.in_ok-program.program.items c.in_ok-tail.tail.items c.in_ok-read.read.files c.in_ok-script.script.items
-    c.in_ok-session.session c.in_ok-program.ensures.program c.in_ok-tail.ensures.tail (rw (same_files c.in_ok-program.ensures.unchanged) at c.in_ok-read.ensures.files)
+    c.in_ok-session.session c.in_ok-program.ensures.program tail (rw (same_files c.in_ok-program.ensures.unchanged) at c.in_ok-read.ensures.files)
     (rw (same_files c.in_ok-read.ensures.unchanged, same_files c.in_ok-program.ensures.unchanged) at c.in_ok-script.ensures.script) c.in_ok-session.ensures
 
 pub returns-in_err-session-clause-fault : goal.returns-in_err-session-clause-fault
 returns-in_err-session-clause-fault g c =
+    let tail : c.in_ok-tail.tail.items ≡ c.args.words.now.tail.now = c.in_ok-tail.ensures.items_if_clones_equal (λ x y e. e) ∙ c.as_bytes.ensures.value in
     let left = err_from_is_err_and c.from_residual-in_err-session.result c.from_residual-in_err-session.ensures.1 in
     let refused = refused_of_words (g.S.FileSystem.files c.args.system.now) c.args.words.now c.in_ok-program.program.items c.in_ok-read.read.files
     c.in_ok-script.script.items c.session_of.result
     c.in_ok-program.ensures.program (rw (same_files c.in_ok-program.ensures.unchanged) at c.in_ok-read.ensures.files)
     (rw (same_files c.in_ok-read.ensures.unchanged, same_files c.in_ok-program.ensures.unchanged) at c.in_ok-script.ensures.script)
-    (rw c.in_ok-tail.ensures.tail at c.session_of.ensures) in
+    (rw tail at c.session_of.ensures) in
     rw (left.1, left.2) (rw c.in_err-session.was at refused)
 
 pub returns-in_err-script-clause-fault : goal.returns-in_err-script-clause-fault

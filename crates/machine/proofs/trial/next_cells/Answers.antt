@@ -5,7 +5,7 @@ use Rattle.machine.proofs.trial.next_cells.Goals as goal
 
 pub returns : goal.returns
 returns c =
-    notes c.args.run.now c.state-state.result.now.state c.state-state.ensures.session c.state-state.ensures.at c.requires.call c.args.session.now c.in_ok-desk.desk c.call.new.desk c.in_ok-call.field-0 c.requires.session
+    notes c.args.run.now c.state-state.result.now.state c.state-state.ensures.session c.state-state.ensures.at c.requires c.in_ok-desk.desk c.call.new.desk c.in_ok-call.field-0
     (record {
       own = search rules;
       beneath = refl;

@@ -13,5 +13,5 @@ apart own page q none some = elim (cases_lt q (256 * page)) [
   ]
 ]
 
-pub returns-then-not-has_page-clause-gone : goal.returns-then-not-has_page-clause-gone
-returns-then-not-has_page-clause-gone c q h = apart (own_in c.args.cells.now) c.args.page q (c.if-not-has_page.ensures refl) (c.requires.written q h)
+pub returns-else-has_page-clause-gone : goal.returns-else-has_page-clause-gone
+returns-else-has_page-clause-gone c q h = apart (own_in c.args.cells.now) c.args.page q (c.if-has_page.ensures refl) (c.requires.written q h)

@@ -16,4 +16,4 @@ instruction_passes-requires c =
     chosen_instruction _ _ _ (sym c.is_chosen.ensures ∙ c.if-not-is_chosen.false) (sym c.is_at_call.ensures ∙ c.if-is_at_call.false)
 
 pub returns-clause-line : goal.returns-clause-line
-returns-clause-line c = rw (line_by_cells _ _ _ _ (sym c.is_chosen.ensures ∙ c.if-not-is_chosen.false), ← c.requires) c.instruction_passes.ensures
+returns-clause-line c = rw (line_by_cells _ _ _ _ (sym c.is_chosen.ensures ∙ c.if-not-is_chosen.false)) c.instruction_passes.ensures

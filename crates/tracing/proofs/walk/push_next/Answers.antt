@@ -19,7 +19,7 @@ returns-in-Some-clause-lines g c =
     let end = rw c.in-Some.is at c.in_ok-cause.ensures.ends in
     ap (with_lines (walked (g.X.Text.pushed c.args.text.now) c.args.walker.now.skip)) (sym
     (stops_past c.args.choice.now run new goes.session goes.low none c.requires.valid c.in-Some.cause c.args.end
-    (omega (arith, c.requires.below)) end.0 end.2 (silent c.args.choice.now run.session new.step (state_of new) c.if-choice.false (ne_eqb _ _ end.1))))
+    (omega (arith, c.requires.below)) end.0 end.2 (silent c.args.choice.now run.session new.step (state_of new) c.if-choice.false end.1)))
 
 pub returns-then-step-end-clause-lines : goal.returns-then-step-end-clause-lines
 returns-then-step-end-clause-lines g c =

@@ -1,5 +1,5 @@
 use Rattle.std.proofs.Common.{◌≡◌, ℕ, ◌<◌, IsTrue, drop, length}
-use Rattle.i8080.specs.Memory.{write_all}
+use Rattle.i8080.specs.Memory.{with_writes}
 use Rattle.i8080.specs.Registers.{onward}
 use Rattle.i8080.specs.End.{cells_from}
 use Rattle.i8080.proofs.bus.Bus.write_cells.Given as goal
@@ -9,8 +9,5 @@ invariant-loop-value g l = let first = g.Self.Bus.memory l.fn.self in let now = 
   ready : (i : ℕ) → i < length l.values → IsTrue (g.Self.Bus.is_ready l.self (onward l.at i));
   kept : (q : ℕ) → IsTrue (g.Self.Bus.is_ready l.fn.self q) → IsTrue (g.Self.Bus.is_ready l.self q);
   address : l.address ≡ onward l.at l.value-index;
-  rest : write_all now.own (cells_from l.address (drop l.value-index l.values)) ≡ write_all first.own (cells_from l.at l.values);
-  looks : now.looks ≡ first.looks;
-  beneath : now.beneath ≡ first.beneath;
-  lender : now.lender ≡ first.lender;
+  rest : with_writes (cells_from l.address (drop l.value-index l.values)) now ≡ with_writes (cells_from l.at l.values) first;
 }

@@ -9,7 +9,7 @@ pub returns-clause-at : goal.returns-clause-at
 returns-clause-at c =
     let i = c.self.inside in
     subst (λ (r : RunView). plain_after r.session r.step ≡ Some (state_of r)) c.self.view_is
-    (plain_at (record { session = i.session.now; step = i.step; seen = seen_by i.noting i.looks.seen }) i.state.state c.self.invariant.session c.self.invariant.at)
+    (plain_at (record { session = i.session.now; step = i.step; seen = seen_by i.notes.noting i.notes.looks.seen }) i.state.state c.self.invariant.session c.self.invariant.run.at)
 
 pub returns-clause-session : goal.returns-clause-session
 returns-clause-session c = subst (λ (r : RunView). IsSession r.session) c.self.view_is c.self.invariant.session

@@ -1,6 +1,8 @@
-use Rattle.std.proofs.Common.{◌<◌, ◌≤◌, ap, refl, arith, length}
+use Rattle.std.proofs.Common.{◌<◌, ◌≤◌, ◌∙◌, ap, refl, arith, length}
+use Rattle.std.specs.Prelude.{slice_index}
 use Rattle.std.proofs.lemmas.Bool.Decides.{nat_tests}
 use Rattle.console_calls.specs.ScriptLooks.{DeskLooks}
+use Rattle.machine.specs.StateView.{StateView}
 use Rattle.machine.proofs.TakeLemmas.{takes_cell, takes_ask, takes_none}
 use Rattle.machine.proofs.state.State.take_question.Goals.{in-Some-take_look, in-None}
 use Rattle.machine.proofs.state.State.take_question.Goals as goal
@@ -21,7 +23,7 @@ pub returns-then-next-look_count-clause-taken : goal.returns-then-next-look_coun
 returns-then-next-look_count-clause-taken c =
     let looked = c.args.self.now.looked in
     let within : c.args.next.now < length looked.cells = grind (arith, nat_tests, c.if-next-look_count.true, c.look_count.ensures) in
-    takes_cell c.args.next.now looked looked c.nth_look-cell.result within c.nth_look-cell.ensures refl
+    takes_cell c.args.next.now looked looked c.nth_look-cell.result within (c.nth_look-cell.ensures ∙ ap (λ (v : StateView). slice_index v.looked.cells c.args.next.now) c.self.view_is) refl
 
 pub returns-then-is_empty-clause-taken : goal.returns-then-is_empty-clause-taken
 returns-then-is_empty-clause-taken c =

@@ -26,7 +26,7 @@ laid_here : (page : Page) (at other byte : ℕ) (mark : Bool) → byte ≡ cond 
 unfolding page_own
 laid_here page at other byte mark e h = record {
   value = e ∙ sym (read (get_or page.written at false) (get_or page.bytes at 0) other);
-  known = ap (λ b. b || mark) (is_written (get_or page.written at false) (get_or page.bytes at 0)) ∙ h;
+  seen = ap (λ b. b || mark) (is_written (get_or page.written at false) (get_or page.bytes at 0)) ∙ h;
 }
 
 -- One more cell is laid over.

@@ -42,6 +42,6 @@ returns-clause-kept c =
 
 pub returns-clause-stand : goal.returns-clause-stand
 returns-clause-stand c =
-    let sound = sound_edit c.self.inside.last_run.session c.apply.new.session c.self.inside.last_run.text.items c.touch_of-touch.result c.self.inside.checkpoints (record { spacing = c.self.inside.checkpoints.spacing; ring = c.drop_past.new.ring; notes = record { looks = c.erase_from.new.self; noted = c.self.inside.checkpoints.notes.noted }; left_out = c.self.inside.checkpoints.left_out })
+    let sound = sound_edit c.self.inside.last_run.session c.apply.new.session c.self.inside.last_run.text.items c.touch_of-touch.result c.self.inside.checkpoints (record { spacing = c.self.inside.checkpoints.spacing; ring = c.drop_past.new.ring; notes = record { looks = c.erase_from.new.self; noting = c.self.inside.checkpoints.notes.noting }; left_out = c.self.inside.checkpoints.left_out })
     c.self.invariant (rw (← c.in_ok-apply.ensures.ok) at c.touch_of-touch.ensures) c.drop_past.ensures.parts c.erase_from.ensures.steps c.erase_from.ensures.seen refl in
     all_stand _ _ _ sound.valid
