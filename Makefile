@@ -23,9 +23,7 @@ PAGE = s,(\.\./)+(cpmrun|cpmdeps|cpmtrace|cpmtools),\2,g; s,\./(cpmrun|cpmdeps|c
 .PHONY: all check stage install uninstall dist bench needs pages clean
 
 all:
-	@./cpmrun --build > /dev/null
-	@./cpmdeps --build > /dev/null
-	@./cpmtrace --build > /dev/null
+	@scripts/run 'cpmrun cpmdeps cpmtrace' 'executable cpmdeps cpmtrace' --build > /dev/null
 
 check:
 	@./check $(CRATE)

@@ -1,7 +1,7 @@
 # Proves the crates that a program needs, independent ones in parallel, and builds the program: `make -f scripts/build.mk`, at the top of
 # the repository, builds `cpmrun`. `scripts/run` calls it. A line of crates.txt reads as a rule: a crate is made after those that it uses.
 
-# the program, and the crate with its `main`
+# the program, and the crate with its `main`; or several programs, and as many crates
 NAME = cpmrun
 MAIN = executable
 export NAME MAIN
@@ -14,7 +14,7 @@ MAKEFLAGS += --no-builtin-rules --no-print-directory --jobs=$(LANES)
 CRATES := $(notdir $(wildcard crates/*))
 # A build takes as long as its longest chain of crates. These are in no long chain: each gets one job, and the time that is left. Every
 # other crate gets as many jobs as there are lanes.
-SIDE := $(filter records command_words command_tail folders loading report_lines,$(CRATES))
+SIDE := $(filter records command_words command_tail folders loading,$(CRATES))
 
 .PHONY: program $(CRATES)
 

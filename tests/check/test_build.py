@@ -70,7 +70,9 @@ class Build(unittest.TestCase):
         for notes in 'log', 'processes':
             open(self.notes / notes, mode).close()
         # what runs in the background or by nohup ignores some signals, and so would the build
-        words = ['env', '--default-signal', *['setsid', '--ctty'] * (terminal is not None), self.tree / name, '--build']
+        words = ['env', '--default-signal', *['setsid', '--ctty'] * (terminal is not None)]
+        words += [self.tree / name] if ' ' not in name else [self.tree / 'scripts/run', name, name.replace('cpmrun', 'executable')]
+        words += ['--build']
         env = {'PATH': self.path, 'NOTES': str(self.notes), 'PROGRESS_SECONDS': '0.1', **env}
         with open(self.work / 'err', 'w') as err:
             return subprocess.Popen(words, env=env, stdin=terminal, stderr=err if terminal is None else terminal, stdout=subprocess.PIPE, text=True)
@@ -118,7 +120,7 @@ class Build(unittest.TestCase):
                 os.kill(int(process), 0)
         self.log = (self.notes / 'log').read_text().splitlines()
         if status == 0:
-            self.assertEqual(printed, f'{self.tree}/out/{name}\n')
+            self.assertEqual(printed, ''.join(f'{self.tree}/out/{one}\n' for one in name.split()))
         return sorted(line[5:] for line in self.log if line.startswith('ends '))
 
     def change(self, crate):
@@ -245,6 +247,25 @@ class Build(unittest.TestCase):
         self.assertEqual(subprocess.check_output([self.tree / 'cpmdeps', 'x']), b'built\n')
         self.change('far')
         self.assertEqual(self.end(self.start(), 0), ['executable', 'far', 'top'])
+
+    def test_several_programs_are_built_at_once(self):
+        both = sorted([*ALL, 'cpmdeps', 'list'])
+        self.assertEqual(self.end(self.start(name='cpmrun cpmdeps'), 0, 'cpmrun cpmdeps'), both)
+        self.assertEqual(self.errors.splitlines()[0],
+                         'cpmrun cpmdeps: proving the programs and building them (README.md, "The first build")')
+        self.assertEqual(self.errors.splitlines()[-1], f'cpmrun cpmdeps: proved {self.log[-1].split()[1]}, 0 crates left')
+        for program in 'cpmrun', 'cpmdeps':
+            self.assertEqual((self.end(self.start(name=program), 0, program), self.errors), ([], ''))
+        self.change('list')
+        self.assertEqual(self.end(self.start(name='cpmrun cpmdeps'), 0, 'cpmrun cpmdeps'), ['cpmdeps', 'list'])
+        self.change('right')
+        (self.notes / 'fails-top').touch()
+        proved = self.end(self.start(name='cpmrun cpmdeps'), 1)
+        self.assertIn('no proof of top\n', self.errors)
+        self.assertEqual([(self.tree / 'out' / program).exists() for program in ('cpmrun', 'cpmdeps')], [True, True])
+        (self.notes / 'fails-top').unlink()
+        proved += self.end(self.start(name='cpmrun cpmdeps'), 0, 'cpmrun cpmdeps')
+        self.assertEqual(sorted(proved), ['cpmdeps', 'executable', 'list', 'right', 'top'])
 
     def test_the_second_program_can_be_built_first(self):
         self.assertEqual(self.end(self.start(name='cpmdeps'), 0, 'cpmdeps'), ['cpmdeps', 'ground', 'list', 'right'])

@@ -12,7 +12,8 @@ class MakeTest(WorkTest):
         """Returns the status of `make bench` if these scripts fail, and the lines of all."""
         shutil.copy(TOP / 'Makefile', self.work)
         (self.work / 'tests/measure').mkdir(parents=True, exist_ok=True)
-        for name in *SCRIPTS, '../../cpmrun', '../../cpmdeps', '../../cpmtrace':
+        (self.work / 'scripts').mkdir(exist_ok=True)
+        for name in *SCRIPTS, '../../scripts/run':
             script = self.put(f'tests/measure/{name}', f'#!/bin/sh\necho {name} "$@"\nexit {int(name in failing)}\n')
             script.chmod(0o755)
         done = self.run_with_children('make', '-s', '-C', self.work, 'bench', 'PROGRAM=one', 'DEPENDENCIES_PROGRAM=two',

@@ -144,6 +144,7 @@ class CheckTest(WorkTest):
         self.make_script('crates/test_runner/out/test_runner', '')
         for name in 'cpmrun', 'cpmdeps', 'cpmtrace':
             self.make_script(name, f'echo the-{name}')
+        self.make_script('scripts/run', 'echo together')
 
     def make_script(self, name: str, text: str) -> None:
         self.put(name, f'#!/bin/sh\n{text}\n').chmod(0o755)
@@ -174,6 +175,26 @@ class CheckTest(WorkTest):
         found, lines = self.check('echo "3 passed, 0 failed"', f'echo {" ".join(f"${name}" for name in names)}\necho "1 passed, 0 failed"')
         self.assertEqual(found, 0)
         self.assertIn('the-cpmrun the-cpmdeps the-cpmtrace crates/test_runner/out/test_runner', lines)
+
+    def test_what_was_proved_is_not_proved_again(self) -> None:
+        shutil.copytree(TOP / 'scripts', self.work / 'scripts', dirs_exist_ok=True)
+        places = {'cpmrun': 'executable', 'cpmdeps': 'cpmdeps', 'cpmtrace': 'cpmtrace'}
+        for name, crate in places.items():
+            shutil.copy(TOP / name, self.work)
+            (self.work / 'crates' / crate / 'src').mkdir(parents=True)
+            self.put(f'crates/{crate}/src/main.rt', '')
+        self.put('crates.txt', '')
+        makes = [f'mkdir -p crates/{crate}/out; echo {name} of ci > crates/{crate}/out/{crate}; chmod +x crates/{crate}/out/{crate}'
+                 for name, crate in places.items()]
+        good = '\n'.join(['[ "$*" = ci ] || { echo "rt $*"; exit 9; }', 'sleep 0.1', *makes, 'echo "3 passed, 0 failed"'])
+        tests = 'cat $PROGRAM $DEPENDENCIES_PROGRAM $TRACE_PROGRAM\necho "1 passed, 0 failed"'
+        of_ci = [f'{name} of ci' for name in places]
+        status, lines = self.check(good, tests)
+        self.assertEqual((status, lines[-1]), (0, '4 passed, 0 failed'))
+        self.assertEqual([line for line in lines if line.endswith('of ci')], of_ci)
+        # a source that changes meanwhile: the programs of before are not taken for those of now
+        status, lines = self.check(f'{good}\ntouch crates/cpmdeps/src/main.rt', tests)
+        self.assertNotEqual([line for line in lines if line.endswith('of ci')], of_ci)
 
     def test_one_crate_up_to_the_first_step_that_fails(self) -> None:
         steps = ['crates/test_runner rt check', '. rt must-fail one', '. ./cpmrun --build', '. tests/check/run_all.py test_one test_two']
