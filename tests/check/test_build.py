@@ -168,6 +168,35 @@ class Build(unittest.TestCase):
         self.assertEqual(len([text for text in shown if text.startswith('cpmrun: the proof of right failed:\nno proof of right\n')]), 1, shown)
         self.assertEqual(shown[-1], '')
 
+    def test_no_line_is_in_the_message_of_a_failure_or_after_it(self):
+        (self.tree / 'out/rooms').mkdir(parents=True)
+        reads, writes = pty.openpty()
+        started = []
+
+        def progress(*words):
+            env = {'PATH': self.path, 'TERM': 'xterm', 'NAME': 'cpmrun', 'MAIN': 'executable'}
+            process = subprocess.Popen([self.tree / 'scripts/progress', *words], env=env, stdin=subprocess.PIPE, stderr=writes)
+            self.addCleanup(process.communicate)
+            started.append(process)
+            return process.stdin
+
+        message = progress('--failure')
+        message.write(b'cpmrun: the proof of right')
+        message.flush()
+        shown = os.read(reads, 4096)
+        progress('left')
+        progress()
+        time.sleep(0.5)
+        message.write(b' failed:\n')
+        message.close()
+        self.assertEqual([process.wait() for process in started], [0, 0, 0])
+        os.close(writes)
+        with contextlib.suppress(OSError):
+            while more := os.read(reads, 4096):
+                shown += more
+        os.close(reads)
+        self.assertEqual(shown.decode().replace('\r\n', '\n'), f'{CLEAR}cpmrun: the proof of right failed:\n')
+
     def test_the_key_for_an_interrupt_leaves_nothing(self):
         for count in 0, 1, 4:
             shown = self.build_on_terminal(-signal.SIGINT, f'cpmrun: {count} of 6 crates')
