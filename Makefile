@@ -1,11 +1,11 @@
-# make                          proves and builds cpmrun, cpmdeps and cpmtrace
+# make                          proves and builds cpmrun, which is also cpmdeps and cpmtrace; prints nothing if it is built already
 # make check                    proves everything, and runs all tests
 # make check CRATE=replay       formats and proves a crate, tries its must-fail edits, and runs the tests that name it
 # make install PREFIX=/usr/local DESTDIR=
-#                               installs the programs, their man pages, their completion for bash, and their pages and examples
-# make uninstall                removes these files
+#                               installs cpmrun, links to it by its other names, their man pages, completion for bash, pages and examples
+# make uninstall                removes these files and links
 # make dist                     packs them for machines without the Rattle kit
-# make bench                    measures how fast cpmrun, cpmdeps and cpmtrace are
+# make bench                    measures how fast it is by each name
 # make needs CRATE=replay       prints the crates that a crate needs
 # make pages                    writes the texts and options of --help into the man pages and the completion
 # make clean                    removes what was proved and built
@@ -23,7 +23,7 @@ PAGE = s,(\.\./)+(cpmrun|cpmdeps|cpmtrace|cpmtools),\2,g; s,\./(cpmrun|cpmdeps|c
 .PHONY: all check stage install uninstall dist bench needs pages clean
 
 all:
-	@scripts/run 'cpmrun cpmdeps cpmtrace' 'executable cpmdeps cpmtrace' --build > /dev/null
+	@exec scripts/run cpmrun --build > /dev/null
 
 check:
 	@./check $(CRATE)
@@ -32,8 +32,7 @@ check:
 stage: all
 	@rm -rf $(STAGE) && mkdir -p $(STAGE)/$(DOC)
 	@install -D $(PROGRAM) $(STAGE)/bin/cpmrun
-	@install -D $(DEPENDENCIES_PROGRAM) $(STAGE)/bin/cpmdeps
-	@install -D $(TRACE_PROGRAM) $(STAGE)/bin/cpmtrace
+	@ln -s cpmrun $(STAGE)/bin/cpmdeps && ln -s cpmrun $(STAGE)/bin/cpmtrace
 	@install -D cpmtools $(STAGE)/bin/cpmtools
 	@mkdir -p $(STAGE)/share/cpmtools && cp -R python/vembrusk $(STAGE)/share/cpmtools
 	@for name in cpmrun cpmdeps cpmtrace cpmtools; do \
@@ -50,7 +49,7 @@ install: stage
 	@echo 'installed bin/cpmrun, bin/cpmdeps, bin/cpmtrace, bin/cpmtools, their man pages and completion for bash, and $(DOC) in $(DESTDIR)$(PREFIX)'
 
 uninstall: stage
-	@cd $(STAGE) && find . -type f | (cd '$(DESTDIR)$(PREFIX)' && xargs -d '\n' rm -f)
+	@cd $(STAGE) && find . ! -type d | (cd '$(DESTDIR)$(PREFIX)' && xargs -d '\n' rm -f)
 	@cd $(STAGE) && find $(DOC) share/cpmtools -depth -type d | (cd '$(DESTDIR)$(PREFIX)' && xargs -d '\n' rmdir --ignore-fail-on-non-empty)
 
 dist: stage
@@ -65,7 +64,7 @@ needs:
 	@tac crates.txt | awk -F '[: ]+' '$$1 == "$(CRATE)" || $$1 in used { print $$1; for (i = 2; i <= NF; i++) used[$$i] }' | tac
 
 pages: all
-	@scripts/pages $(PROGRAM) $(DEPENDENCIES_PROGRAM) $(TRACE_PROGRAM)
+	@scripts/pages $(PROGRAM)
 	@scripts/tool_pages
 
 clean:

@@ -1,10 +1,9 @@
-# Proves the crates that a program needs, independent ones in parallel, and builds the program: `make -f scripts/build.mk`, at the top of
-# the repository, builds `cpmrun`. `scripts/run` calls it. A line of crates.txt reads as a rule: a crate is made after those that it uses.
+# Proves the crates that the program needs, independent ones in parallel, and builds it: `make -f scripts/build.mk`, at the top of the
+# repository. `scripts/run` calls it. A line of crates.txt reads as a rule: a crate is made after those that it uses.
 
-# the program, and the crate with its `main`; or several programs, and as many crates
+# the name with which messages begin
 NAME = cpmrun
-MAIN = executable
-export NAME MAIN
+export NAME
 
 # A proof takes at most 3,000 MB with one job, and 1,500 MB more for each further job.
 MEMORY := $(shell awk '/^MemAvailable:/ { print int($$2 / 1024) }' /proc/meminfo)
@@ -18,7 +17,7 @@ SIDE := $(filter records command_words command_tail folders loading,$(CRATES))
 
 .PHONY: program $(CRATES)
 
-program: $(filter i8080,$(CRATES)) $(MAIN)
+program: $(filter i8080,$(CRATES)) executable
 
 include crates.txt
 

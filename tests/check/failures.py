@@ -28,6 +28,8 @@ class Wanted:
     of disks, and then new files of disks, files that may replace others, and removals."""
     outside: int = 0
     """How many of these, the first ones, are outside of disks. Each is changed alone."""
+    streamed: dict[str, bytes] = field(default_factory=dict)
+    """The files that are written while the run goes on. A failure may leave a prefix of each, or none."""
     before: dict[str, bytes] = field(default_factory=dict)
     """The files that are there before the run. Each is replaced as a whole, or removed, or not touched."""
     every: int = 1
@@ -97,6 +99,9 @@ class FailureTest(ProgramTest):
 
     def check_files(self, wanted: Wanted, done, found: dict[str, bytes]) -> None:
         """Checks what a run left, and its end."""
+        streamed = {name: found.pop(name) for name in [*found] if name in wanted.streamed}
+        self.assertTrue(all(wanted.streamed[name].startswith(data) for name, data in streamed.items()), 'a trace is not a prefix of the wanted one')
+        self.assertTrue(done.returncode != wanted.status or streamed == wanted.streamed, 'a trace is cut off')
         temporaries = {name: found.pop(name) for name in [*found] if Path(name).name[0] == '.' and name not in wanted.before}
         self.assertTrue(found in wanted.states(), 'a file is cut off, gone, changed before its turn, or one that is not wanted')
         changed = wanted.states().index(found)

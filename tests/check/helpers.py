@@ -1,5 +1,5 @@
-"""What the tests share. The environment variables PROGRAM, DEPENDENCIES_PROGRAM and TRACE_PROGRAM name the built programs, cpmrun, cpmdeps and
-cpmtrace."""
+"""What the tests share. The environment variables PROGRAM, DEPENDENCIES_PROGRAM and TRACE_PROGRAM are the paths of the built program by its names
+cpmrun, cpmdeps and cpmtrace. The last two are links, which are not followed: the program does what its name says."""
 import contextlib
 import errno
 import os
@@ -19,9 +19,9 @@ sys.path.insert(0, str(TOP / 'python'))
 
 from vembrusk.assembler import assemble  # noqa: E402
 
-PROGRAM = Path(os.environ.get('PROGRAM', TOP / 'out/cpmrun')).resolve()
-DEPENDENCIES_PROGRAM = Path(os.environ.get('DEPENDENCIES_PROGRAM', TOP / 'out/cpmdeps')).resolve()
-TRACE_PROGRAM = Path(os.environ.get('TRACE_PROGRAM', TOP / 'out/cpmtrace')).resolve()
+PROGRAM = Path(os.environ.get('PROGRAM', TOP / 'out/cpmrun')).absolute()
+DEPENDENCIES_PROGRAM = Path(os.environ.get('DEPENDENCIES_PROGRAM', TOP / 'out/cpmdeps')).absolute()
+TRACE_PROGRAM = Path(os.environ.get('TRACE_PROGRAM', TOP / 'out/cpmtrace')).absolute()
 HI = TOP / 'examples/hi/hi.com'
 OUT_OF_MEMORY = 'cpmrun: out of memory\n'
 

@@ -40,7 +40,7 @@ GROUPS = {
         ('replay', 'report', ['Report::journal']),
         ('edit_lines', 'stream', ['replay']),
     ],
-    'What a rule for `make` and a trace have': [('make_rules', 'rule', ['rule_of_run']), ('tracing', 'trace', ['write_trace', 'call_trace'])],
+    'What a rule for `make` and a trace have': [('make_rules', 'rule', ['rule_of_run']), ('tracing', 'trace', ['write_trace'])],
     'What the program does': [('cpmrun', 'command_line', ['command'])],
     'What `cpmdeps` and `cpmtrace` print': [
         ('dependency_command', 'command_line', ['dependency_command']),

@@ -48,7 +48,7 @@ class HelpTextTest(ProgramTest):
             self.assertNotEqual(with_losses, text)
             for before in text, with_losses:
                 page = self.put(name, before)
-                self.expect_command(0, '', '', self.work / 'scripts/pages', *PROGRAMS.values())
+                self.expect_command(0, '', '', self.work / 'scripts/pages', PROGRAM)
                 self.expect_command(0, '', '', self.work / 'scripts/tool_pages')
                 self.assertEqual(page.read_text(), text, f'run `make pages`, which writes {name}')
 

@@ -12,10 +12,17 @@ from test_many import has_parallel, make_machines, smaller
 from test_pages import wrong_blocks
 
 PROGRAMS = {'cpmrun': PROGRAM, 'cpmdeps': DEPENDENCIES_PROGRAM, 'cpmtrace': TRACE_PROGRAM}
+LINKS = {'bin/cpmdeps': 'cpmrun', 'bin/cpmtrace': 'cpmrun'}
+"""The links that are installed, with what they have."""
 
 
 def run(*words, **how):
     return subprocess.run(words, stdout=subprocess.PIPE, stderr=subprocess.STDOUT, text=True, **how)
+
+
+def links_below(folder):
+    """Returns the links below a folder, by their paths from there, with what they have, be it there or not."""
+    return {path.relative_to(folder).as_posix(): os.readlink(path) for path in folder.rglob('*') if path.is_symlink()}
 
 
 class Install(unittest.TestCase):
@@ -37,6 +44,8 @@ class Install(unittest.TestCase):
         doc = prefix / 'share/doc/cpmrun'
         for name, program in PROGRAMS.items():
             self.assertEqual((prefix / 'bin' / name).read_bytes(), program.read_bytes())
+            self.assertEqual(run(prefix / 'bin' / name, '--version').stdout, f'{name} 1.0.0\n')
+        self.assertEqual(links_below(prefix), LINKS)
         for page in doc.rglob('*.md'):
             self.assertNotRegex(page.read_text(), r'\./cpm(run|deps|trace|tools)|tests/programs', page)
         env = {**os.environ, 'PATH': f'{prefix}/bin:{os.environ["PATH"]}'}
@@ -62,13 +71,46 @@ class Install(unittest.TestCase):
         (doc / 'mine').write_text('mine')
         self.make('uninstall', f'PREFIX={prefix}')
         self.assertEqual(files_below(prefix), {'bin/other': b'not ours', 'share/doc/cpmrun/mine': b'mine'})
+        self.assertEqual(links_below(prefix), {})
+
+    def test_what_is_installed_replaces_files_and_links_and_writes_through_none(self):
+        """An older installation has a file for each name; a link may lead to a file or a folder of somebody else, or to nothing."""
+        for number, others in enumerate([
+                {}, {'cpmdeps': '../other', 'cpmtrace': '../other'}, {'cpmrun': '../other', 'cpmdeps': 'cpmrun', 'cpmtrace': '../folder'},
+                {'cpmrun': 'cpmtrace', 'cpmdeps': '../none', 'cpmtrace': '../other'}]):
+            with self.subTest(others):
+                prefix = self.work / f'prefix{number}'
+                (prefix / 'bin').mkdir(parents=True)
+                (prefix / 'folder').mkdir()
+                (prefix / 'other').write_text('not ours')
+                for name in PROGRAMS:
+                    if name in others:
+                        (prefix / 'bin' / name).symlink_to(others[name])
+                    else:
+                        (prefix / 'bin' / name).write_text('older')
+                        os.link(prefix / 'bin' / name, prefix / f'same as {name}')
+                before = {name: (prefix / name).read_text() for name in os.listdir(prefix) if (prefix / name).is_file()}
+                for _ in range(2):
+                    self.make('install', f'PREFIX={prefix}')
+                    self.assertEqual(links_below(prefix), LINKS)
+                    self.assertEqual((prefix / 'bin/cpmrun').read_bytes(), PROGRAM.read_bytes())
+                    for name in PROGRAMS:
+                        self.assertEqual(run(prefix / 'bin' / name, '--version').stdout, f'{name} 1.0.0\n')
+                self.make('uninstall', f'PREFIX={prefix}')
+                self.assertEqual(files_below(prefix), {name: text.encode() for name, text in before.items()})
+                self.assertEqual((links_below(prefix), os.listdir(prefix / 'bin'), os.listdir(prefix / 'folder')), ({}, [], []))
 
     def test_a_package_and_a_staged_install_have_the_same_files(self):
         self.make('install', f'DESTDIR={self.work}/a root', 'PREFIX=/usr')
         name = self.make('-s', 'dist').splitlines()[-1]
         self.addCleanup((TOP / name).unlink)
         self.assertEqual(run('tar', '-C', self.work, '-xzf', TOP / name).returncode, 0)
-        self.assertEqual(files_below(self.work / name.removesuffix('.tar.gz')), files_below(self.work / 'a root/usr'))
+        package = self.work / name.removesuffix('.tar.gz')
+        self.assertEqual(files_below(package), files_below(self.work / 'a root/usr'))
+        for folder in package, self.work / 'a root/usr':
+            self.assertEqual(links_below(folder), LINKS)
+            for name in PROGRAMS:
+                self.assertEqual(run(folder / 'bin' / name, '--version').stdout, f'{name} 1.0.0\n')
 
     def test_others_can_run_what_is_installed_under_any_umask(self):
         for umask in 0o077, 0o027:

@@ -136,23 +136,39 @@ class OutputTest(DiskTest):
         self.expect(0, 'x', WARM_BOOT, program, '--disk', self.disk, '--out-b', out)
         self.expect_names(out, 'NEW')
 
-    def test_a_changed_file_that_has_no_place_is_reported(self) -> None:
+    def test_no_file_is_changed_if_a_changed_file_has_no_place(self) -> None:
+        """The message names the first such file. Without a disk nothing is lost, and the file is dropped."""
         self.put('disk/old', 'one')
-        for folder in 'other', 'out':
-            (self.work / folder).mkdir()
-        program = self.put('calls.com', calls('22 C:NOTE.TXT', '22 D:X', '22 B:Y', '19 OLD'))
-        for names, words in [
-            (['B:Y', 'C:NOTE.TXT', 'D:X'], []),
-            (['C:NOTE.TXT', 'D:X'], ['--out-b', self.work / 'out']),
-            (['D:X'], ['--out-b', self.work / 'out', '--disk-c', self.work / 'other']),
+        other, out = self.work / 'other', self.work / 'out'
+        other.mkdir()
+        out.mkdir()
+        acts = ['22 C:NOTE.TXT', '22 D:X', '22 B:Y', '22 NEW', '19 OLD']
+        program = self.put('calls.com', calls(*acts))
+        for name, words in [
+            ('B:Y', []), ('C:NOTE.TXT', ['--out-b', out]), ('D:X', ['--out-b', out, '--disk-c', other]), ('D:X', ['--out-b', out, '--out-c', other]),
         ]:
-            self.put('disk/old', 'one')
-            lines = ''.join(f'not written {name}\n' for name in names)
-            self.expect(0, '', f'{WARM_BOOT}gone OLD\n{lines}', program, '--disk', self.disk, *words)
-        self.put('disk/old', 'one')
-        self.expect(0, '', f'{WARM_BOOT}gone OLD\n', program, '--files', self.disk, '--out-b', self.work / 'out')
+            for partial in [], ['--partial']:
+                self.expect(1, '', f'cpmrun: cannot write {name}: drive {name[0]} has no folder\n', program, '--disk', self.disk, *words, *partial)
+            self.expect_files(old=b'one')
+            self.expect_names(other)
+            self.expect_names(out)
+        self.expect(0, '', f'{WARM_BOOT}gone OLD\n', program, '--files', self.disk, '--out-b', out)
+        self.expect_names(out, 'Y')
+        program = self.put('halts.com', calls(*acts, end='HLT'))
+        lines = ''.join(f'not written {name}\n' for name in ('B:Y', 'C:NOTE.TXT', 'D:X'))
+        self.expect(4, '', f'stop Halt\n{UNCHANGED}{lines}', program, '--disk', self.disk)
+        self.expect(1, '', 'cpmrun: cannot write B:Y: drive B has no folder\n', program, '--disk', self.disk, '--partial')
+        self.expect_files(old=b'one')
         program = self.put('calls.com', calls('22 NEW', '21 B:OLD'))
-        self.expect(0, '', f'{WARM_BOOT}not written NEW\n', program, '--disk-b', self.disk)
+        self.expect(1, '', 'cpmrun: cannot write NEW: drive A has no folder\n', program, '--disk-b', self.disk)
+        self.expect_files(old=b'one')
+
+    def test_a_file_that_is_moved_to_a_drive_without_a_folder_is_not_lost(self) -> None:
+        """The program writes the file there, and then erases it here, as each program moves a file to another drive."""
+        self.put('disk/x.txt', 'one')
+        program = self.put('move.com', calls('15 X.TXT', '22 C:X.TXT', '21 C:X.TXT', '19 X.TXT'))
+        self.expect(1, '', 'cpmrun: cannot write C:X.TXT: drive C has no folder\n', program, '--disk', self.disk)
+        self.expect_files(**{'x.txt': b'one'})
 
 
 class FolderTest(ProgramTest):

@@ -1,20 +1,30 @@
-"""Runs the built program with reports of the run: a rule for make (`--deps`, `--target`) and a trace (`--trace`). A report is in place with the
-files of the run or not at all; a device, a FIFO or a link is written and never replaced."""
+"""Runs the built program with reports of the run: a rule for make (`--deps`, `--target`) and a trace (`--trace`). A rule is in place with the
+files of the run or not at all; a trace is written while the run goes on. A device, a FIFO or a link is written and never replaced."""
 import os
+import pty
 import shutil
+import signal
 import stat
+import subprocess
 import threading
+import time
+import tty
 from pathlib import Path
 
 from failures import FailureTest, Wanted
-from helpers import DEPENDENCIES_PROGRAM, HI, PROGRAM, RECORD, TOP, TRACE_PROGRAM, ProgramTest, calls
+from helpers import DEPENDENCIES_PROGRAM, HI, PROGRAM, RECORD, TOP, TRACE_PROGRAM, ProgramTest, build_library, calls
 from test_disk import PADDED
+from vembrusk.assembler import assemble
 
 SORT = TOP / 'examples/sort'
 WARM_BOOT = 'stop WarmBoot\n'
 MORE = "\n\nFor more information, try '--help'.\n"
 USAGE = f'\n\nUsage: cpmrun [OPTIONS] <PROGRAM> [TAIL]{MORE}'
 ACTS = ['15 NOTE.TXT', '21 NOTE.TXT', '22 NEW', '19 OLD']
+POLL = assemble(['poll: MVI C,11; CALL 5; JMP poll'])
+"""Asks for ever whether a key is there, which takes 5 steps each time."""
+PRINTED = 'MVI E,65; MVI C,2; CALL 5'
+MAY_CHANGE = 'the run may change a file of this name'
 
 
 class ReportTest(ProgramTest):
@@ -76,7 +86,7 @@ class TogetherTest(ReportTest):
     def test_a_run_that_stops_is_traced_too(self) -> None:
         """The disk is unchanged, and the trace has the calls up to the stop."""
         program = self.put('calls.com', calls(*ACTS, end='HLT'))
-        self.expect(4, '', 'stop Halt\ndisk unchanged\ngone OLD\n', program, '--disk', self.disk, '--trace', self.trace)
+        self.expect(4, '', 'stop Halt\ndisk unchanged\n', program, '--disk', self.disk, '--trace', self.trace)
         self.expect_kept()
         trace = self.trace.read_bytes()
         self.assertEqual(trace, self.printed(TRACE_PROGRAM, program, '--disk', self.disk))
@@ -93,15 +103,17 @@ class TogetherTest(ReportTest):
                 self.assertEqual(self.rule.read_bytes(), self.printed(DEPENDENCIES_PROGRAM, *read, '--make', 'the $ target'))
         self.expect(1, '', 'cpmrun: a rule for make cannot have the path a:b\n', 'none.com', '--deps', self.rule, '--target', 'a:b')
 
-    def test_older_reports_are_replaced_as_a_whole(self) -> None:
+    def test_an_older_rule_is_replaced_as_a_whole_and_an_older_trace_is_emptied(self) -> None:
         for path in self.rule, self.trace:
             path.write_text('older ' * 1000)
             path.chmod(0o640)
         old = [path.stat().st_ino for path in (self.rule, self.trace)]
         self.expect(0, '', f'{WARM_BOOT}gone OLD\n', *self.run_words, '--deps', self.rule, '--trace', self.trace)
-        self.assertTrue(all(path.read_bytes().endswith(end) for path, end in ((self.rule, b'\n'), (self.trace, b'stop WarmBoot\n'))))
+        self.assertTrue(self.rule.read_bytes().endswith(b'\n'))
+        self.assertNotIn(b'older', self.rule.read_bytes() + self.trace.read_bytes())
+        self.assertTrue(self.trace.read_bytes().endswith(b'stop WarmBoot\n'))
         self.assertEqual([path.stat().st_mode & 0o777 for path in (self.rule, self.trace)], [0o640, 0o640])
-        self.assertTrue(all(path.stat().st_ino != number for path, number in zip((self.rule, self.trace), old)))
+        self.assertEqual([path.stat().st_ino == number for path, number in zip((self.rule, self.trace), old)], [False, True])
 
 
 class ClashTest(ReportTest):
@@ -143,7 +155,10 @@ class ClashTest(ReportTest):
             for name in 'to-host', 'to-link':
                 self.expect_bad_file(option, name, 'the run reads this file', *self.run_words, '--files-b', self.work / 'b')
             self.expect_bad_file(option, 'to-disk', 'the run reads this file', *self.run_words)
-            self.expect_bad_file(option, 'to-out', 'the run changes this file', self.program, '--out', self.work / 'out')
+        self.expect_bad_file('deps', 'to-out', 'the run changes this file', self.program, '--out', self.work / 'out')
+        self.expect_bad_file('trace', 'to-out', MAY_CHANGE, self.program, '--out', self.work / 'out')
+        os.link(self.work / 'out/NEW', self.work / 'second')
+        self.expect_bad_file('trace', 'second', MAY_CHANGE, self.program, '--out', self.work / 'out')
         (self.work / 'to-rule').symlink_to('rule.d')
         self.put('rule.d', 'older')
         self.expect_bad_file('deps', 'to-rule', "it is the file of '--trace <FILE>'", *self.run_words, '--trace', self.work / 'rule.d')
@@ -154,22 +169,42 @@ class ClashTest(ReportTest):
         out, link = self.work / 'out', self.work / 'to-new'
         out.mkdir()
         link.symlink_to('out/NEW')
-        for option in '--deps', '--trace':
-            self.expect(1, '', f'cpmrun: cannot write {link}: it was changed meanwhile\n', self.program, '--out', out, option, link)
-            self.assertEqual((out / 'NEW').read_bytes(), b'')
-            (out / 'NEW').unlink()
-        link.unlink()
-        link.symlink_to('disk/new')
-        self.expect(1, '', f'cpmrun: cannot write {link}: it was changed meanwhile\n', *self.run_words, '--trace', link)
-        self.expect_changed()
+        self.expect(1, '', f'cpmrun: cannot write {link}: it was changed meanwhile\n', self.program, '--out', out, '--deps', link)
+        self.assertEqual((out / 'NEW').read_bytes(), b'')
+        (out / 'NEW').unlink()
+
+    def test_a_link_of_a_trace_to_a_file_that_the_run_makes(self) -> None:
+        """The file is the trace's, and the run's is not written."""
+        (self.work / 'out').mkdir()
+        link = self.work / 'to-new'
+        for target, words in ('out/NEW', [self.program, '--out', self.work / 'out']), ('disk/new', self.run_words):
+            link.unlink(missing_ok=True)
+            link.symlink_to(target)
+            self.expect(1, '', f"error: invalid value '{link}' for '--trace <FILE>': the run changes this file{MORE}", *words, '--trace', link)
+            self.assertTrue((self.work / target).read_bytes().endswith(b'stop WarmBoot\n'))
+            (self.work / target).unlink()
+            self.expect_kept()
 
     def test_a_report_is_no_file_that_the_run_changes(self) -> None:
-        (self.work / 'out').mkdir()
-        for option in 'deps', 'trace':
-            self.expect_bad_file(option, self.disk / 'new', 'the run changes this file', *self.run_words)
-            self.expect_bad_file(option, self.work / 'out/NEW', 'the run changes this file', self.program, '--out', self.work / 'out')
-            self.expect_bad_file(option, 'out/../out/NEW', 'the run changes this file', self.program, '--out', self.work / 'out')
+        out = self.work / 'out'
+        out.mkdir()
+        for path, words in (self.disk / 'new', self.run_words), (out / 'NEW', [self.program, '--out', out]), ('out/../out/NEW', [self.program, '--out', out]):
+            self.expect_bad_file('deps', path, 'the run changes this file', *words)
+            self.expect_bad_file('trace', path, MAY_CHANGE, *words)
         self.expect_kept()
+
+    def test_a_trace_has_no_name_of_a_file_in_a_folder_that_the_run_writes(self) -> None:
+        """It is opened before the run, so it is not known yet which files the run changes."""
+        out = self.work / 'out'
+        out.mkdir()
+        (self.work / 'to-out').symlink_to('out')
+        words = [self.program, '--files', self.disk, '--out-d', out]
+        for path in out / 'X', out / 'trace.txt', 'out/T', './out/t.$$$', 'to-out/x':
+            self.expect_bad_file('trace', path, MAY_CHANGE, *words)
+        self.expect_bad_file('trace', self.disk / 'trace', MAY_CHANGE, *self.run_words)
+        for path in out / 'trace.text', out / '.trace', out / 'a:x', self.work / 'b':
+            self.expect(0, '', f'{WARM_BOOT}gone OLD\n', *words, '--trace', path)
+            self.assertTrue(path.read_bytes().endswith(b'stop WarmBoot\n'))
 
     def test_two_reports_have_two_files(self) -> None:
         for path in self.rule, './rule.d':
@@ -251,18 +286,25 @@ class OtherFileTest(ReportTest):
 class FailedReportTest(ReportTest):
     """Reports that cannot be written."""
 
-    def test_no_disk_is_changed_if_a_report_cannot_be_prepared(self) -> None:
-        """The file outside of disks is written before."""
+    def test_no_disk_is_changed_if_a_rule_cannot_be_prepared(self) -> None:
+        """The file outside of disks is written before, and the trace is of the whole run."""
         (self.work / 'out').mkdir()
         program = self.put('calls.com', calls(*ACTS, '22 B:NEW'))
-        for option in '--deps', '--trace':
-            path = self.work / 'none/report'
-            other = '--trace' if option == '--deps' else '--deps'
-            self.expect(1, '', f'cpmrun: cannot write {path}\n', program, '--disk', self.disk, '--out-b', self.work / 'out', option, path,
-                        other, self.trace)
-            self.expect_kept()
-            self.expect_names(self.work / 'out', 'NEW')
-            self.expect_names(self.work, 'calls.com', 'disk', 'out')
+        path = self.work / 'none/report'
+        self.expect(1, '', f'cpmrun: cannot write {path}\n', program, '--disk', self.disk, '--out-b', self.work / 'out', '--deps', path,
+                    '--trace', self.trace)
+        self.expect_kept()
+        self.expect_names(self.work / 'out', 'NEW')
+        self.assertTrue(self.trace.read_bytes().endswith(b'stop WarmBoot\n'))
+
+    def test_nothing_is_run_if_a_trace_cannot_be_opened(self) -> None:
+        (self.work / 'out').mkdir()
+        path = self.work / 'none/trace'
+        self.expect(1, '', f'cpmrun: cannot write {path}\n', HI, '--out', self.work / 'out', '--trace', path, '--deps', self.rule)
+        self.expect(1, '', f'cpmrun: cannot write {path}\n', *self.run_words, '--trace', path)
+        self.expect_kept()
+        self.expect_names(self.work / 'out')
+        self.expect_names(self.work, 'calls.com', 'disk', 'out')
 
     def test_a_folder_is_no_report(self) -> None:
         for option in '--deps', '--trace':
@@ -270,18 +312,151 @@ class FailedReportTest(ReportTest):
             self.assertEqual((done.returncode, done.stdout), (1, b''))
             self.assertTrue(done.stderr.decode().splitlines()[-1].startswith(f'cpmrun: cannot write {self.disk}'), done.stderr)
 
-    def test_a_closed_output_leaves_no_report(self) -> None:
-        for option in '--deps', '--trace':
-            done = self.run_command(PROGRAM, HI, option, self.rule, preexec_fn=lambda: os.close(1))
-            self.assertEqual((done.returncode, done.stderr.decode()), (1, 'cpmrun: cannot write standard output\n'))
-            self.expect_names(self.work, 'calls.com', 'disk')
+    def test_a_closed_output_leaves_no_rule(self) -> None:
+        done = self.run_command(PROGRAM, HI, '--deps', self.rule, preexec_fn=lambda: os.close(1))
+        self.assertEqual((done.returncode, done.stderr.decode()), (1, 'cpmrun: cannot write standard output\n'))
+        self.expect_names(self.work, 'calls.com', 'disk')
 
-    def test_a_trace_of_a_failed_preparation(self) -> None:
+    def test_a_closed_output_is_not_written_into_the_trace(self) -> None:
+        """A file that is opened while standard output is closed could get its number."""
+        for closed in (1,), (0, 1), (0, 1, 2):
+            done = self.run_command(PROGRAM, HI, '--trace', self.trace, preexec_fn=lambda numbers=closed: [os.close(number) for number in numbers])
+            self.assertEqual(done.returncode, 1)
+            if 2 not in closed:
+                self.assertEqual(done.stderr.decode(), 'cpmrun: cannot write standard output\n')
+            self.assertTrue(self.printed(TRACE_PROGRAM, HI).startswith(self.trace.read_bytes()))
+
+    def test_a_trace_before_a_file_that_cannot_be_prepared(self) -> None:
         """A new file has the name of a folder."""
         (self.disk / 'new').mkdir()
         self.expect(1, '', f'cpmrun: cannot write {self.disk}/new: it is no regular file\n', *self.run_words, '--trace', self.trace)
         self.assertEqual((self.disk / 'note.txt').read_bytes(), b'one')
+        self.expect_names(self.work, 'calls.com', 'disk', 'trace')
+
+
+class StreamedTraceTest(ReportTest):
+    """A trace is there while the program runs."""
+
+    def expect_prefix(self, trace: bytes, *words: object) -> None:
+        """Expects a first part of the trace of these words."""
+        self.assertTrue(trace and self.printed(TRACE_PROGRAM, *words).startswith(trace))
+
+    def test_a_trace_is_written_while_the_program_runs(self) -> None:
+        process = self.start(self.put('poll.com', POLL), '--limit', '4000000000', '--trace', self.trace)
+        end = time.monotonic() + 60
+        while not self.trace.exists() or self.trace.stat().st_size < 1_000_000:
+            self.assertTrue(process.poll() is None and time.monotonic() < end, 'no lines come')
+            time.sleep(0.01)
+
+    def test_a_trace_of_few_calls_is_written_while_the_program_runs(self) -> None:
+        """The program makes one call, and then spins: the line comes at the latest after 1,000,000 steps, and not at the end."""
+        process = self.start(self.put('spin.com', assemble([PRINTED, 'spin: JMP spin'])), '--limit', '4000000000', '--trace', self.trace)
+        end = time.monotonic() + 60
+        while not self.trace.exists() or not self.trace.stat().st_size:
+            self.assertTrue(process.poll() is None and time.monotonic() < end, 'no line comes')
+            time.sleep(0.01)
+        self.assertEqual(process.stdout.read(1), b'A')
+
+    def test_an_interrupted_run_leaves_a_first_part(self) -> None:
+        program = self.put('poll.com', POLL)
+        process = self.start(program, '--disk', self.disk, '--trace', self.trace)
+        end = time.monotonic() + 60
+        while not self.trace.exists() or not self.trace.stat().st_size:
+            self.assertTrue(process.poll() is None and time.monotonic() < end, 'no lines come')
+            time.sleep(0.01)
+        process.send_signal(signal.SIGTERM)
+        process.wait(60)
+        self.expect_kept()
+        self.expect_prefix(self.trace.read_bytes()[:100_000], program, '--to', '50000')
+
+    def test_a_traced_run_keeps_no_lines_in_memory(self) -> None:
+        """The trace of this run has 10,000,000 lines."""
+        program = self.put('poll.com', POLL)
+        words = [PROGRAM, program, '--limit', '50000000', '--trace', '/dev/null']
+        self.expect_command(3, '', 'stop Limit\n', 'bash', '-c', 'ulimit -v 20000; exec "$@"', 'bash', *words)
+
+    def test_a_full_disk_in_the_middle_of_a_trace(self) -> None:
+        """The file may have 100 blocks of 1,024 bytes. The run ends long before its limit, and the disk is unchanged."""
+        program = self.put('poll.com', calls(*ACTS, end='poll: MVI C,11; CALL 5; JMP poll'))
+        done = self.run_command('bash', '-c', 'trap "" XFSZ; ulimit -f 100; exec "$@"', 'bash', PROGRAM, program, '--disk', self.disk, '--partial',
+                                '--trace', self.trace, '--deps', self.rule)
+        self.assertEqual((done.returncode, done.stdout, done.stderr.decode()), (1, b'', f'cpmrun: cannot write {self.trace}\n'))
+        self.expect_kept()
+        self.expect_names(self.work, 'calls.com', 'disk', 'poll.com', 'trace')
+        self.assertEqual(self.trace.stat().st_size, 102_400)
+        self.expect_prefix(self.trace.read_bytes(), program, '--disk', self.disk, '--to', '50000')
+
+    def test_a_closed_pipe_ends_the_run(self) -> None:
+        """The reader takes a few lines; the program would run for seconds."""
+        program, fifo = self.put('poll.com', POLL), self.work / 'fifo'
+        os.mkfifo(fifo)
+        process = self.start(program, '--limit', '4000000000', '--trace', fifo)
+        with fifo.open('rb') as pipe:
+            self.expect_prefix(pipe.read(1000), program, '--to', '5000')
+        self.expect_end(1, '', f'cpmrun: cannot write {fifo}\n', process)
+
+    def test_an_unwritten_console_text_ends_the_trace(self) -> None:
+        """The text is not sent, and the program would run for seconds."""
+        program = self.put('spin.com', assemble([PRINTED, 'poll: MVI C,11; CALL 5; JMP poll']))
+        with open('/dev/full', 'wb') as full:
+            done = self.run_command(PROGRAM, program, '--disk', self.disk, '--trace', self.trace, stdout=full)
+        self.assertEqual((done.returncode, done.stderr), (1, b'cpmrun: cannot write standard output\ndisk unchanged\n'))
+        self.assertLess(self.trace.stat().st_size, 100_000_000)
+        self.expect_prefix(self.trace.read_bytes()[:100_000], program, '--to', '50000')
+
+    def test_both_texts_fail(self) -> None:
+        with open('/dev/full', 'wb') as full:
+            done = self.run_command(PROGRAM, HI, '--trace', '/dev/full', stdout=full, stderr=subprocess.PIPE)
+        self.assertEqual((done.returncode, done.stderr), (1, b'cpmrun: cannot write /dev/full\n'))
+
+    def test_a_traced_run_has_its_rule(self) -> None:
+        """The rule is of the very run that is traced."""
+        words = [SORT / 'sort.com', 'names.txt sorted.txt', '--files', SORT / 'files']
+        self.expect(0, self.printed(PROGRAM, *words), WARM_BOOT, *words, '--deps', self.rule, '--trace', self.trace)
+        self.assertEqual(self.rule.read_bytes(), self.printed(DEPENDENCIES_PROGRAM, *words, '--make', self.rule))
+        self.assertEqual(self.trace.read_bytes(), self.printed(TRACE_PROGRAM, *words))
+
+
+class StandardStreamTest(ReportTest):
+    """A trace into standard output or standard error."""
+
+    def test_a_hyphen_is_standard_output(self) -> None:
+        trace = self.printed(TRACE_PROGRAM, HI).decode()
+        self.expect(0, f'Hi{trace}', WARM_BOOT, HI, '--trace', '-', cwd=self.work)
         self.expect_names(self.work, 'calls.com', 'disk')
+
+    def test_a_stream_is_not_emptied(self) -> None:
+        trace = self.printed(TRACE_PROGRAM, HI)
+        log = self.put('log', 'older\n')
+        for path in '/dev/stdout', '/dev/fd/1', '-', log, './log':
+            log.write_bytes(b'older\n')
+            with log.open('ab') as out:
+                done = self.run_command(PROGRAM, HI, '--trace', path, stdout=out, cwd=self.work)
+            self.assertEqual((done.returncode, log.read_bytes()), (0, b'older\nHi' + trace))
+        for path in '/dev/stderr', '/dev/fd/2', log:
+            log.write_bytes(b'older\n')
+            with log.open('ab') as err:
+                done = self.run_command(PROGRAM, HI, '--trace', path, stderr=err, cwd=self.work)
+            self.assertEqual((done.returncode, done.stdout, log.read_bytes()), (0, b'Hi', b'older\n' + trace + WARM_BOOT.encode()))
+
+    def test_no_steps_are_shown_among_the_lines_on_a_terminal(self) -> None:
+        """Without a trace the steps are shown (test_text.py)."""
+        terminal, end = pty.openpty()
+        tty.setraw(end)
+        program = self.put('spin.com', assemble([PRINTED, 'spin: JMP spin']))
+        words = [PROGRAM, program, '--limit', '6000000', '--trace', '/dev/stderr']
+        environment = {**os.environ, 'TERM': 'xterm', 'LD_PRELOAD': str(build_library('clock', self.work))}
+        process = subprocess.Popen(words, stdin=subprocess.DEVNULL, stdout=subprocess.DEVNULL, stderr=end, env=environment)
+        os.close(end)
+        text = b''
+        try:
+            while piece := os.read(terminal, 4096):
+                text += piece
+        except OSError:  # the other end is closed
+            pass
+        os.close(terminal)
+        process.wait(60)
+        self.assertEqual(text, self.printed(TRACE_PROGRAM, program, '--limit', '6000000') + b'stop Limit\n')
 
 
 class ReportFailures(FailureTest):
@@ -296,8 +471,8 @@ class ReportFailures(FailureTest):
         self.put_files(before)
         self.assertEqual(self.run_command(PROGRAM, *words).returncode, 0)
         made = self.take_files()
-        files = {'a/new': PADDED, 'a/note.txt': RECORD, 'd/rule': made['d/rule'], 'd/trace': made['d/trace'], 'a/old': None}
-        return Wanted(b'', b'stop WarmBoot\ngone OLD\n', before=before, files=files, **how), words
+        files = {'a/new': PADDED, 'a/note.txt': RECORD, 'd/rule': made['d/rule'], 'a/old': None}
+        return Wanted(b'', b'stop WarmBoot\ngone OLD\n', before=before, files=files, streamed={'d/trace': made['d/trace']}, **how), words
 
 
 class ReportRefusals(ReportFailures):
@@ -314,7 +489,7 @@ class ReportDevices(ReportFailures):
     def test_each_call_fails(self) -> None:
         self.environment = {'FAIL_CALLS': 'orwdslmynu'}
         wanted, words = self.wanted(fault_status=1, may_pass=False)
-        paths = [f'{self.work}/written/{name}' for name in ('a', *wanted.before, *wanted.files)]
+        paths = [f'{self.work}/written/{name}' for name in ('a', *wanted.before, *wanted.files, *wanted.streamed)]
         paths += [f'{self.work}/written/{name}' for name in ('d', *wanted.prepared(0))]
         wanted.messages = tuple(f'cannot {verb} {path}' for verb in ('read', 'write') for path in (words[0], *paths))
         self.each_in_turn(wanted, *words)

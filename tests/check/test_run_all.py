@@ -144,7 +144,6 @@ class CheckTest(WorkTest):
         self.make_script('crates/test_runner/out/test_runner', '')
         for name in 'cpmrun', 'cpmdeps', 'cpmtrace':
             self.make_script(name, f'echo the-{name}')
-        self.make_script('scripts/run', 'echo together')
 
     def make_script(self, name: str, text: str) -> None:
         self.put(name, f'#!/bin/sh\n{text}\n').chmod(0o755)
@@ -170,7 +169,7 @@ class CheckTest(WorkTest):
                 found, lines = self.check(f'[ "$*" = ci ] || exit 9\n{of_rt}', of_tests)
                 self.assertEqual((found, lines[-1]), (status, line))
 
-    def test_the_tests_get_the_built_programs(self) -> None:
+    def test_the_tests_get_the_built_program_by_each_name(self) -> None:
         names = 'PROGRAM', 'DEPENDENCIES_PROGRAM', 'TRACE_PROGRAM', 'SESSIONS'
         found, lines = self.check('echo "3 passed, 0 failed"', f'echo {" ".join(f"${name}" for name in names)}\necho "1 passed, 0 failed"')
         self.assertEqual(found, 0)
@@ -178,22 +177,27 @@ class CheckTest(WorkTest):
 
     def test_what_was_proved_is_not_proved_again(self) -> None:
         shutil.copytree(TOP / 'scripts', self.work / 'scripts', dirs_exist_ok=True)
-        places = {'cpmrun': 'executable', 'cpmdeps': 'cpmdeps', 'cpmtrace': 'cpmtrace'}
-        for name, crate in places.items():
+        names = ['cpmrun', 'cpmdeps', 'cpmtrace']
+        for name in names:
             shutil.copy(TOP / name, self.work)
-            (self.work / 'crates' / crate / 'src').mkdir(parents=True)
-            self.put(f'crates/{crate}/src/main.rt', '')
+        (self.work / 'crates/executable/src').mkdir(parents=True)
+        self.put('crates/executable/src/main.rt', '')
         self.put('crates.txt', '')
-        makes = [f'mkdir -p crates/{crate}/out; echo {name} of ci > crates/{crate}/out/{crate}; chmod +x crates/{crate}/out/{crate}'
-                 for name, crate in places.items()]
-        good = '\n'.join(['[ "$*" = ci ] || { echo "rt $*"; exit 9; }', 'sleep 0.1', *makes, 'echo "3 passed, 0 failed"'])
-        tests = 'cat $PROGRAM $DEPENDENCIES_PROGRAM $TRACE_PROGRAM\necho "1 passed, 0 failed"'
-        of_ci = [f'{name} of ci' for name in places]
+        made = 'crates/executable/out/executable'
+        good = '\n'.join(['[ "$*" = ci ] || { echo "rt $*"; exit 9; }', 'sleep 0.1', f'mkdir -p {Path(made).parent}',
+                          f"echo 'echo \"${{0##*/}} of ci\"' > {made}", f'chmod +x {made}', 'echo "3 passed, 0 failed"'])
+        tests = '$PROGRAM; $DEPENDENCIES_PROGRAM; $TRACE_PROGRAM\necho "1 passed, 0 failed"'
+        of_ci = [f'{name} of ci' for name in names]
+        (self.work / 'out').mkdir()
+        for name in names:  # what was built before
+            self.make_script(f'out/{name}', 'echo older')
+        self.put('out/cpmrun.sources', 'a record')
         status, lines = self.check(good, tests)
         self.assertEqual((status, lines[-1]), (0, '4 passed, 0 failed'))
         self.assertEqual([line for line in lines if line.endswith('of ci')], of_ci)
-        # a source that changes meanwhile: the programs of before are not taken for those of now
-        status, lines = self.check(f'{good}\ntouch crates/cpmdeps/src/main.rt', tests)
+        self.assertEqual([os.readlink(self.work / 'out' / name) for name in names[1:]], ['cpmrun'] * 2)
+        # a source that changes meanwhile: the program of before is not taken for that of now
+        status, lines = self.check(f'{good}\ntouch crates/executable/src/main.rt', tests)
         self.assertNotEqual([line for line in lines if line.endswith('of ci')], of_ci)
 
     def test_one_crate_up_to_the_first_step_that_fails(self) -> None:
@@ -221,7 +225,9 @@ class StepsTest(WorkTest):
     CRATES = """ground:
 above: ground clap
 main_of: above
-executable: main_of
+dependency_command: above
+trace_command: above
+executable: main_of dependency_command trace_command
 # tests
 test_above: above
 test_ground: ground
@@ -264,7 +270,9 @@ test_runner: ground
         self.expect_steps('ground', 'played rules', 'crates/ground rt check', 'crates/test_ground rt check', 'crates/test_runner rt check', run)
         self.expect_steps('test_runner', 'played rules', 'crates/test_runner rt check', run)
         self.expect_steps('test_above', 'rules', 'crates/test_above rt test')
-        self.expect_steps('executable', 'item ran rules traced', 'crates/executable rt check', build, '. ./cpmtrace --build')
+        self.expect_steps('executable', 'item listed ran rules traced', 'crates/executable rt check', build)
+        self.expect_steps('trace_command', 'rules traced', 'crates/trace_command rt check', build)
+        self.expect_steps('dependency_command', 'listed rules', 'crates/dependency_command rt check', build)
         self.expect_steps('main_of', 'rules', 'crates/main_of rt check')
 
     def test_there_must_be_such_a_crate(self) -> None:

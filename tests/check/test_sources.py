@@ -113,7 +113,7 @@ CHECKPOINT = {
 
 MAY_REPORT_OUT_OF_MEMORY = {
     'command_words': 'error_class read_dependency_words read_trace_words read_words',
-    'cpmrun': 'plan_report replay_file write_report',
+    'cpmrun': 'fault_of plan_report replay_file write_report',
     'dependency_command': 'write_listing write_rule',
     'disks': 'disks_of lock_disks same_folders',
     'edit_lines': 'execute_edit hex_bytes',
@@ -122,11 +122,10 @@ MAY_REPORT_OUT_OF_MEMORY = {
     'hostfiles': 'number',
     'loading': 'read_fault typed_bytes',
     'make_rules': 'refusal',
-    'one_run': 'path_of',
+    'one_run': 'run_to_end write_both',
     'plan': 'look_into put remove uncommitted unprepared',
     'replay': 'number',
     'requests': 'clash_fault program_words request_of_error taken_fault',
-    'tracing': 'call_trace',
 }
 """The functions of each crate that report out of memory themselves, not by `?` or in a `From`. Most turn one error into another, or into a
 number or a message."""
@@ -238,15 +237,15 @@ class SourcesTest(RuleTest):
         self.expect_count(1, r'\brun_and_note\(', LOOP)
 
     def test_a_file_is_only_written_where_there_is_none(self) -> None:
-        """No contract says how a file is opened. One function writes through what is at a path, as a shell's `>` does: for reports whose path
-        is a device, a pipe or a link, which nothing replaces."""
+        """No contract says how a file is opened. One function opens what is at a path as a shell's `>` does: for what is written piece by
+        piece, and for reports whose path is a device, a pipe or a link, which nothing replaces."""
         self.refuse(in_code(r'\b(create|truncate|append)\((true|false)\)|\bFile::create\b|\bfs::write\b', SYSTEM))
         self.expect_count(2, r'\b(create|truncate|append)\((true|false)\)|\bFile::create\b|\bfs::write\b', SYSTEM)
         self.expect_count(1, r'\bwrite\(true\)\.create\(true\)\.truncate\(true\)', SYSTEM)
         self.expect_count(1, r'\bcreate_new\(true\)', SYSTEM)
         through = [f'{path.split("/")[0]}::{function.name.split("::")[-1]}' for path, code in product_code().items()
-                   for function in functions_of(code) if 'truncate(true)' in function.body or 'write_through(' in function.body]
-        self.assertEqual(sorted(through), ['folders::write_into', 'folders::write_through'])
+                   for function in functions_of(code) if re.search(r'truncate\(true\)|\b(open_to_write|write_through)\(', function.body)]
+        self.assertEqual(sorted(through), [f'folders::{name}' for name in ('destination_at', 'open_to_write', 'write_into', 'write_through')])
 
     def test_no_macro_is_defined(self) -> None:
         """A macro can write any name, past all these rules."""
@@ -289,11 +288,12 @@ class SourcesTest(RuleTest):
         self.refuse(f'{crate.name}: {used}' for crate in read_crates() for used in unnamed(crate))
 
     def test_few_chains_of_crates_lead_down_from_a_crate(self) -> None:
-        """Before a proof rt reads each crate below once for each chain that leads to it, so one more line of crates.txt can cost minutes."""
+        """Before a proof rt reads each crate below once for each chain that leads to it, so one more line of crates.txt can cost minutes. The crate
+        of `main` has the chains of three programs."""
         chains = {}
         for crate in read_crates():
             chains[crate.name] = 1 + sum(chains.get(used, 0) for used in crate.uses)
-        self.refuse(f'{name}: {count} chains' for name, count in chains.items() if count > 4000)
+        self.refuse(f'{name}: {count} chains' for name, count in chains.items() if count > (3 if name == 'executable' else 1) * 4000)
 
     def test_the_root_of_each_crate_describes_its_modules(self) -> None:
         """A reader of a crate begins there."""

@@ -1,42 +1,81 @@
 -- The plan of a run, and what carrying it out did.
-use Rattle.std.proofs.Common.{◌≡◌, ◌++◌, Bool, List, Option, Ok, Result, false}
+use Rattle.std.proofs.Common.{◌≡◌, ◌++◌, ◌∙◌, Bool, List, None, Ok, Option, Result, [], ap, false, inr, refl, subst}
+use Rattle.command_words.specs.declared.words.Words.{Words}
+use Rattle.faults.specs.declared.fault.Fault.{Fault}
 use Rattle.folders.specs.ChangedBytes.{written_bytes}
-use Rattle.folders.specs.FileSystem.{FileBytes}
+use Rattle.folders.specs.FileSystem.{FileBytes, Path}
 use Rattle.folders.specs.declared.contents.Written.{Written}
 use Rattle.folders.specs.declared.fault.Failure.{Failure}
+use Rattle.folders.specs.declared.listing.Listing.{Listing}
 use Rattle.folders.specs.declared.places.Places.{Places}
 use Rattle.hostfiles.specs.Hosts.{Host}
+use Rattle.machine.specs.Inputs.{Session}
 use Rattle.machine.specs.PlainFiles.{Files}
-use Rattle.one_run.specs.Planned.{planned}
-use Rattle.one_run.specs.declared.planning.Turn.TheVariants.{Gone, Outside}
+use Rattle.machine.specs.PlainState.{plain_run}
+use Rattle.one_run.specs.ChangedList.{Changed, changed_list, first_unplaced, planned}
+use Rattle.one_run.specs.declared.planning.Turn.TheVariants.{Gone, New, Outside, Replacing}
+use Rattle.one_run.specs.declared.reporting.Disks.{Disks}
+use Rattle.one_run.specs.declared.reporting.Disks.TheVariants as became
 use Rattle.plan.specs.Carries.{Carries, CarriesEach}
 use Rattle.plan.specs.Wanted.{Wanted}
 use Rattle.plan.specs.declared.deed.Deed.{Deed}
-use Rattle.cpmrun.specs.Reports.{IsElsewhere, Told, report_part}
-use Rattle.cpmrun.specs.RunEnds.{CarriesPlan, IsWhole, asked, disk_puts}
-use Rattle.cpmrun.proofs.Lists.{four_parts}
+use Rattle.cpmrun.specs.Reports.{IsElsewhere, IsRuleOf, Told, put_paths, report_part}
+use Rattle.cpmrun.specs.RunEnds.{BreaksChanges, BreaksPlan, CarriesPlan, ChangesFiles, IsPlan, IsWhole, asked, changed_by_run, disk_puts, on_disks, puts}
 
-module _ (p : Places) (host : Host) (own : Files) (rule trace : Option Told) (before : Option FileBytes) where
-  -- The reports and what is removed were added to what is put onto disks.
-  pub is_whole : (with_rule with_trace : Bool) (puts first second plan : List Wanted) → (with_rule ≡ false → IsElsewhere rule before)
-      → (with_trace ≡ false → IsElsewhere trace before) → puts ≡ disk_puts p host own → first ≡ puts ++ report_part with_rule rule
-      → second ≡ first ++ report_part with_trace trace → plan ≡ second ++ planned Gone p host own → IsWhole p host own rule trace before plan
-  is_whole with_rule with_trace puts first second plan r t start one two three = record {
+module _ (disks : Disks) (cs : List Changed) where
+  -- What is put onto disks was planned turn by turn.
+  pub disk_puts_planned : (none first second : List Wanted) → none ≡ [] → first ≡ none ++ on_disks disks (planned New cs) → second ≡ first ++ on_disks disks (planned Replacing cs)
+      → second ≡ disk_puts disks cs
+  disk_puts_planned none first second n one two = two ∙ ap (λ t. t ++ on_disks disks (planned Replacing cs)) (one ∙ ap (λ t. t ++ on_disks disks (planned New cs)) n)
+
+  -- The rule and what is removed were added to what is put onto disks.
+  pub is_whole : (rule : Option Told) (before : Option FileBytes) (with_rule : Bool) (puts first plan : List Wanted) → (with_rule ≡ false → IsElsewhere rule before)
+      → puts ≡ disk_puts disks cs → first ≡ puts ++ report_part with_rule rule → plan ≡ first ++ on_disks disks (planned Gone cs) → IsWhole disks cs rule before plan
+  is_whole rule before with_rule puts first plan apart start one two = record {
     with_rule = with_rule;
-    with_trace = with_trace;
-    rule_apart = r;
-    trace_apart = t;
-    is = four_parts puts (report_part with_rule rule) (report_part with_trace trace) (planned Gone p host own) (disk_puts p host own) first second plan start one two three;
+    apart = apart;
+    is = two ∙ ap (λ t. t ++ on_disks disks (planned Gone cs)) (one ∙ ap (λ t. t ++ report_part with_rule rule) start);
   }
 
-  -- The files outside of disks were written, and then the whole plan was carried out, or broke off.
-  pub carries_plan : (middle after : Option FileBytes) (result : Result (Unit {0}) Failure) (outside deeds : List (Deed Written)) → asked outside ≡ planned Outside p host own
-      → CarriesEach written_bytes outside before middle (Ok tt) → IsWhole p host own rule trace before (asked deeds) → Carries written_bytes deeds middle after result
-      → CarriesPlan p host own rule trace before after result
-  carries_plan middle after result outside deeds is each whole carried = record {
-    middle = middle;
-    outside = record { deeds = outside; outside = is; carried = each };
-    deeds = deeds;
-    whole = whole;
-    carried = carried;
+-- The plan for disks of a run, with its rule.
+pub is_plan : (w : Words) (listings : List (Option Listing)) (s : Session) (disks : Disks) (cs : List Changed) (before : Option FileBytes) (rule : Option Told)
+    (paths : List Path) (disk first plan : List Wanted) (with_rule : Bool) → paths ≡ put_paths (puts disks cs) → IsRuleOf w listings paths s rule
+    → (with_rule ≡ false → IsElsewhere rule before) → disk ≡ disk_puts disks cs → first ≡ disk ++ report_part with_rule rule → plan ≡ first ++ on_disks disks (planned Gone cs)
+    → IsPlan w listings s disks cs before plan
+is_plan w listings s disks cs before rule paths disk first plan with_rule p r apart start one two = record {
+  rule = rule;
+  rule_is = subst (λ x. IsRuleOf w listings x s rule) p r;
+  whole = is_whole disks cs rule before with_rule disk first plan apart start one two;
+}
+
+-- The files outside of disks were written, and then the plan for disks was carried out, or broke off.
+pub carries_plan : (before middle after : Option FileBytes) (result : Result (Unit {0}) Failure) (outside deeds : List (Deed Written))
+    → CarriesEach written_bytes outside before middle (Ok tt) → Carries written_bytes deeds middle after result
+    → CarriesPlan (asked outside) (asked deeds) before after result
+carries_plan before middle after result outside deeds each carried = record {
+  middle = middle;
+  first = record { deeds = outside; is = refl; carried = each };
+  deeds = deeds;
+  is = refl;
+  carried = carried;
+}
+
+module _ (w : Words) (listings : List (Option Listing)) (s : Session) (disks : Disks) (cs : List Changed) (before middle after : Option FileBytes) (outside plan : List Wanted)
+    (is : IsPlan w listings s disks cs before plan) (o : outside ≡ planned Outside cs) (m : middle ≡ before) where
+  -- The files were changed by the plan of a run.
+  pub changes_files : (disks ≡ became.Changed → first_unplaced cs ≡ None) → CarriesPlan outside plan middle after (Ok tt) → ChangesFiles w listings s disks cs before after
+  changes_files placed carried = record {
+    placed = placed;
+    plan = plan;
+    is = is;
+    carries = subst (λ x. CarriesPlan x plan before after (Ok tt)) o (subst (λ x. CarriesPlan outside plan x after (Ok tt)) m carried);
   }
+
+  -- This broke off.
+  pub breaks_changes : (fault : Fault) → BreaksPlan outside plan middle after fault → BreaksChanges w listings s disks cs before after fault
+  breaks_changes fault broken =
+      inr (plan, is, subst (λ x. BreaksPlan x plan before after fault) o (subst (λ x. BreaksPlan outside plan x after fault) m broken))
+
+-- The list of the changed files of a run is that of its session.
+pub list_of : (p : Places) (s : Session) {host : Host} {own : Files} → host ≡ s.files → own ≡ (plain_run s).state.files → changed_list p host own ≡ changed_by_run p s
+list_of p s h o = λ i. changed_list p (h i) (o i)

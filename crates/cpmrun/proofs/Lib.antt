@@ -1,7 +1,6 @@
 mod Carrying
 mod Choosing
-mod Finishing
-mod Lists
+mod Streaming
 mod Targets
 mod Unmetered
 mod Writing

@@ -4,7 +4,7 @@ use Rattle.std.specs.Borrow.{Bor}
 use Rattle.std.specs.Cmp.{eq_by_cmp_equiv}
 use Rattle.std.specs.Cmp.Lexicographic.{slice_cmp, nat_list_cmp_total}
 use Rattle.std.specs.FinMap.{contains_key, contains_key-keys, get, get-retain_keys}
-use Rattle.std.specs.List.{flat_map, list_all, list_any}
+use Rattle.std.specs.List.{concat, flat_map, list_all, list_any}
 use Rattle.std.specs.Ordering.{eq_by_cmp, nat_cmp}
 use Rattle.std.specs.Prelude.{IfSome}
 use Rattle.std.proofs.lemmas.Bool.{and_from, false≢true}
@@ -20,18 +20,20 @@ use Rattle.folders.specs.declared.places.Places.{Places}
 use Rattle.hostfiles.specs.Hosts.{Host}
 use Rattle.hostfiles.specs.Names.{Key, is_sayable}
 use Rattle.hostfiles.proofs.Views.{same_key}
-use Rattle.machine.specs.ChangedFiles.{changed_in, changed_keys_in, is_changed_in, is_changed_name_in, keys_of_both}
+use Rattle.machine.specs.ChangedFiles.{contents_in, changed_in, changed_keys_in, is_changed_in, is_changed_name_in, keys_of_both}
 use Rattle.machine.specs.PlainFiles.{Files}
 use Rattle.make_rules.specs.Carried.{is_carried}
 use Rattle.make_rules.specs.RefusedPaths.{is_refused_folder, refuses_rule}
 use Rattle.make_rules.proofs.PlacePaths.{AllowsPlaces, IsCarriedAt, four, placed}
 use Rattle.make_rules.proofs.RunPaths.{AreAllowed, are_allowed, four_drives, neither}
-use Rattle.one_run.specs.Planned.{bytes_in, expected_at, is_turn, path_for, places_at, planned, planned_of, wanted_at}
+use Rattle.one_run.specs.ChangedList.{Changed, changed_at, changed_list, changed_with, expected_at, is_turn, path_for, planned, planned_for, wanted_at}
+use Rattle.one_run.specs.declared.reporting.Disks.{Disks}
+use Rattle.one_run.specs.declared.reporting.Disks.TheVariants as became
 use Rattle.one_run.specs.declared.planning.Turn.{Turn}
 use Rattle.one_run.specs.declared.planning.Turn.TheVariants.{New, Outside, Replacing}
-use Rattle.plan.specs.Wanted.{Expected, Wanted}
+use Rattle.plan.specs.Wanted.{Wanted}
 use Rattle.cpmrun.specs.Reports.{AllowsRule, chosen, or_rule, put_path, put_paths, rule_path, targets_of, written_folders}
-use Rattle.cpmrun.specs.RunEnds.{ArePlacesOf, disk_puts, puts}
+use Rattle.cpmrun.specs.RunEnds.{ArePlaces, disk_puts, on_disks, puts}
 
 -- ---- lists of deeds
 
@@ -48,19 +50,19 @@ joined xs ys p q =
 
 -- ---- one file
 
-put_at : (o : Option Path) (e : Expected) (bytes : List ℕ) → IsCarriedAt o → AllCarried (wanted_at o e true bytes)
-put_at None e bytes h = refl
-put_at (Some path) e bytes h = and_from (is_carried path) true h refl
+module _ (p : Places) (host : Host) (bytes : List ℕ) (key : Key) where
+  put_at : (o : Option Path) → IsCarriedAt o → AllCarried (wanted_at o (changed_with p host true bytes key))
+  put_at None h = refl
+  put_at (Some path) h = and_from (is_carried path) true h refl
 
-removed_at : (o : Option Path) (e : Expected) (bytes : List ℕ) → AllCarried (wanted_at o e false bytes)
-removed_at None e bytes = refl
-removed_at (Some path) e bytes = refl
+  removed_at : (o : Option Path) → AllCarried (wanted_at o (changed_with p host false bytes key))
+  removed_at None = refl
+  removed_at (Some path) = refl
 
-one_file : (p : Places) (key : Key) (its_turn there : Bool) (e : Expected) (bytes : List ℕ) → IsCarriedAt (place_of p key)
-    → AllCarried (cond its_turn (wanted_at (path_for p there key) e there bytes) [])
-one_file p key false there e bytes h = refl
-one_file p key true true e bytes h = put_at (place_of p key) e bytes h
-one_file p key true false e bytes h = removed_at (removed_place_of p key) e bytes
+  one_file : (its_turn there : Bool) → IsCarriedAt (place_of p key) → AllCarried (cond its_turn (wanted_at (path_for p there key) (changed_with p host there bytes key)) [])
+  one_file false there h = refl
+  one_file true true h = put_at (place_of p key) h
+  one_file true false h = removed_at (removed_place_of p key)
 
 -- ---- all files
 
@@ -74,11 +76,12 @@ or_right : (a b : Bool) → b ≡ true → (a || b) ≡ true
 or_right true b h = refl
 or_right false b h = h
 
-each : (part : Key → List Wanted) (keys : List Key) → ((key : Key) → list_any (is_key key) keys ≡ true → AllCarried (part key)) → AllCarried (flat_map part keys)
-each part [] h = refl
-each part (k ∷ ks) h =
-    joined (part k) (flat_map part ks) (h k (or_left (is_key k k) (list_any (is_key k) ks) ((eq_by_cmp_equiv nat_list_cmp_total).refl k)))
-    (each part ks (λ key there. h key (or_right (is_key key k) (list_any (is_key key) ks) there)))
+each : (part : Changed → List Wanted) (make : Key → Changed) (keys : List Key) → ((key : Key) → list_any (is_key key) keys ≡ true → AllCarried (part (make key)))
+    → AllCarried (flat_map part (map make keys))
+each part make [] h = refl
+each part make (k ∷ ks) h =
+    joined (part (make k)) (flat_map part (map make ks)) (h k (or_left (is_key k k) (list_any (is_key k) ks) ((eq_by_cmp_equiv nat_list_cmp_total).refl k)))
+    (each part make ks (λ key there. h key (or_right (is_key key k) (list_any (is_key key) ks) there)))
 
 kept : {X : Type 0} (changed valid : Bool) (o : Option X) → is_some (cond (changed && valid) o None) ≡ true → valid ≡ true
 kept true true o h = refl
@@ -91,10 +94,16 @@ sayable host files key h =
     let changed = get-retain_keys both (is_changed_name_in host files) key (λ x e. ap (is_changed_name_in host files) (sym (same_key key x e))) in
     kept (is_changed_in host files key) (is_sayable key) (get both key) (ap is_some (sym changed) ∙ contains_key-keys (changed_in host files) key ∙ h)
 
-in_turn : (turn : Turn) (p : Places) (host : Host) (files : Files) → AllowsPlaces p → AllCarried (planned turn p host files)
-in_turn turn p host files a = each (planned_of turn p host files) (changed_keys_in host files) (λ key there.
+in_turn : (turn : Turn) (p : Places) (host : Host) (files : Files) → AllowsPlaces p → AllCarried (planned turn (changed_list p host files))
+in_turn turn p host files a = each (planned_for turn) (changed_at p host files) (changed_keys_in host files) (λ key there.
     let h = sayable host files key there in
-    one_file p key (is_turn turn (contains_key files key) (expected_at p host key)) (contains_key files key) (expected_at p host key) (bytes_in files key) (placed p key a h))
+    one_file p host (concat (unwrap_or (contents_in files key) [])) key (is_turn turn (contains_key files key) (expected_at p host key)) (contains_key files key) (placed p key a h))
+
+-- The same on disks, unless they stay unchanged.
+on_disks_carried : (disks : Disks) (plan : List Wanted) → AllCarried plan → AllCarried (on_disks disks plan)
+on_disks_carried became.Unchanged plan h = refl
+on_disks_carried became.Absent plan h = h
+on_disks_carried became.Changed plan h = h
 
 -- ---- the words
 
@@ -109,24 +118,21 @@ at_all w listings p h out disks =
     let two = neither (list_any is_refused_folder (four w.out)) (list_any is_refused_folder (four w.disk)) (sym (list_any-append is_refused_folder (four w.out) (four w.disk)) ∙ h) in
     record { disks = four_drives (four w.disk) listings p.disks disks two.1; out = ap (λ folders. list_any is_refused_folder (four folders)) out ∙ two.0 }
 
-at_some : (changes : Bool) (p : Places) → AllowsPlaces p → AllowsPlaces (places_at changes p)
-at_some true p a = a
-at_some false p a = record { disks = refl; out = a.out }
-
 -- A rule can have the paths of all files that a run puts in place.
-pub puts_carried : (w : Words) (listings : List (Option Listing)) (p : Places) (host : Host) (files : Files) → ArePlacesOf w listings p → AllowsRule w → is_some w.deps ≡ true
-    → list_all is_carried (put_paths (puts p host files)) ≡ true
-puts_carried w listings p host files (all, changes, are, same) allows some =
-    let a = subst AllowsPlaces (sym same) (at_some changes all (at_all w listings all (written_allowed w w.deps allows some) are.out are.disks)) in
-    joined (planned Outside p host files) (planned New p host files ++ planned Replacing p host files) (in_turn Outside p host files a)
-    (joined (planned New p host files) (planned Replacing p host files) (in_turn New p host files a) (in_turn Replacing p host files a))
+pub puts_carried : (w : Words) (listings : List (Option Listing)) (p : Places) (host : Host) (files : Files) (disks : Disks) → ArePlaces w listings p → AllowsRule w → is_some w.deps ≡ true
+    → list_all is_carried (put_paths (puts disks (changed_list p host files))) ≡ true
+puts_carried w listings p host files disks are allows some =
+    let a = at_all w listings p (written_allowed w w.deps allows some) are.out are.disks in
+    let cs = changed_list p host files in
+    let new = on_disks disks (planned New cs) in
+    let replacing = on_disks disks (planned Replacing cs) in
+    joined (planned Outside cs) (new ++ replacing) (in_turn Outside p host files a)
+    (joined new replacing (on_disks_carried disks (planned New cs) (in_turn New p host files a)) (on_disks_carried disks (planned Replacing cs) (in_turn Replacing p host files a)))
 
--- The paths that are pushed for the files outside of disks, and then for those on disks.
-pub paths_pushed : (p : Places) (host : Host) (files : Files) (none first second : List Path) (outside disks : List Wanted) → none ≡ [] → first ≡ none ++ put_paths outside
-    → second ≡ first ++ put_paths disks → outside ≡ planned Outside p host files → disks ≡ disk_puts p host files → second ≡ put_paths (puts p host files)
-paths_pushed p host files none first second outside disks n one two o d =
-    two ∙ ap (λ t. t ++ put_paths disks) (one ∙ ap (λ t. t ++ put_paths outside) n) ∙ sym (paths_joined outside disks)
-    ∙ ap (λ t. put_paths (t ++ disks)) o ∙ ap (λ t. put_paths (planned Outside p host files ++ t)) d
+-- The paths of the files that are planned outside of disks, and then on disks.
+pub paths_put : (disks : Disks) (cs : List Changed) (outside plan : List Wanted) → outside ≡ planned Outside cs → plan ≡ disk_puts disks cs
+    → put_paths outside ++ put_paths plan ≡ put_paths (puts disks cs)
+paths_put disks cs outside plan o d = sym (paths_joined outside plan) ∙ ap (λ t. put_paths (t ++ plan)) o ∙ ap (λ t. put_paths (planned Outside cs ++ t)) d
 
 -- What is known at the path of a rule, and its targets.
 pub allowed_there : (w : Words) (path : Bor Path) → w.deps ≡ Some path → AllowsRule w → AreAllowed (session_words w) (rule_path w path) (written_folders w)

@@ -1,23 +1,24 @@
 -- What a run reports into files: a rule for make, and a trace. (This project's profile.)
-use Rattle.std.specs.Prelude.{◌≡◌, ◌⊎◌, ℕ, Bool, true, false, [], ◌∷◌, ◌++◌, List, Option, Some, None, IfSome, codes, get_or, map, string_bytes, unwrap_or}
+use Rattle.std.specs.Prelude.{◌≡◌, ◌⊎◌, ℕ, Bool, true, false, [], ◌∷◌, ◌++◌, List, Option, Some, None, IfSome, codes, get_or, if◌then◌else◌, map, option_map, string_bytes, unwrap_or}
 use Rattle.std.specs.Borrow.{Bor}
 use Rattle.std.specs.List.{flat_map}
+use Rattle.std.specs.Str.{bytes_eq}
 use Rattle.command_words.specs.RunLine.{session_words}
 use Rattle.command_words.specs.declared.clashes.Clash.{Clash}
 use Rattle.command_words.specs.declared.words.Words.{Words}
-use Rattle.disks.specs.Given.{AreGiven}
+use Rattle.disks.specs.Given.{AreGiven, IsAnyReadFault}
 use Rattle.folders.specs.FileSystem.{FileBytes, IsFree, Path}
 use Rattle.folders.specs.declared.listing.Listing.{Listing}
 use Rattle.machine.specs.Inputs.{Session}
 use Rattle.make_rules.specs.RefusedPaths.{refuses_rule}
 use Rattle.make_rules.specs.RunRules.{IsRule}
+use Rattle.plan.specs.Faults.{IsAnyWriteFault}
 use Rattle.plan.specs.Wanted.{Wanted, wanted}
 use Rattle.faults.specs.Faults.{usage_text, value_text}
 use Rattle.requests.specs.Requests.{clash_reason}
 use Rattle.faults.specs.declared.fault.Fault.{Fault}
 use Rattle.faults.specs.declared.fault.Fault.TheVariants.{Folders, OutOfMemory, Usage}
 use Rattle.faults.specs.declared.tool.Tool.TheVariants.{Cpmrun}
-use Rattle.tracing.specs.Trace.{each_call, trace_text}
 use Rattle.cpmrun.specs.declared.reports.Placing.{Placing}
 use Rattle.cpmrun.specs.declared.reports.Placing.TheVariants.{InPlan, Through}
 use Rattle.cpmrun.specs.declared.reports.Report.{Report}
@@ -71,13 +72,12 @@ IsRuleAt w listings written s (Some path) (Some (p, text)) = (p ≡ path.now) ×
 abbrev pub IsRuleOf : Words → List (Option Listing) → List Path → Session → Option Told → Type 0
 IsRuleOf w listings written s rule = IsRuleAt w listings written s w.deps rule
 
--- The trace that the words ask for, or none.
-abbrev pub trace_at : Session → Option (Bor Path) → Option Told
-trace_at s None = None
-trace_at s (Some path) = Some (path.now, trace_text each_call s)
+-- The path to which the trace is written, if the words ask for one: for `-` it is that of standard output.
+abbrev pub stream_path : Path → Path
+stream_path path = if bytes_eq path (codes "-") then codes "/dev/stdout" else path
 
-abbrev pub IsTraceOf : Words → Session → Option Told → Type 0
-IsTraceOf w s trace = trace ≡ trace_at s w.trace
+abbrev pub trace_path : Words → Option Path
+trace_path w = option_map (λ path. stream_path path.now) w.trace
 
 abbrev pub is_in_plan : Placing → Bool
 is_in_plan InPlan = true
@@ -93,9 +93,9 @@ abbrev pub IsElsewhere : Option Told → Option FileBytes → Type 0
 IsElsewhere None files = Unit {0}
 IsElsewhere (Some (path, text)) files = IsFree path files
 
--- An error of making a plan: something cannot be looked at, or not be written as planned, or an allocation failed.
+-- An error of making a plan: what is at a path could not be found, or no temporary path is free, or an allocation failed.
 abbrev pub IsPlanFault : Fault → Type 0
-IsPlanFault (Folders f) = Unit {0}
+IsPlanFault (Folders f) = IsAnyWriteFault f
 IsPlanFault OutOfMemory = Unit {0}
 IsPlanFault fault = ⊥
 
@@ -106,6 +106,9 @@ is_read = codes "the run reads this file"
 abbrev pub is_changed : List ℕ
 is_changed = codes "the run changes this file"
 
+abbrev pub may_change : List ℕ
+may_change = codes "the run may change a file of this name"
+
 abbrev pub is_other : List ℕ
 is_other = codes "it is the file of '--trace <FILE>'"
 
@@ -114,24 +117,25 @@ abbrev pub IsTaken : Option (Bor Path) → List ℕ → List ℕ → List ℕ �
 IsTaken report option reason message = (path : Bor Path) × (report ≡ Some path) × (message ≡ value_text path.now option reason)
 
 -- The message of a usage error that is seen in the files: two options have the same folder, or a report is to be written to a file that the run
--- reads or changes, or both reports to one file.
+-- reads or changes, or both reports to one file. A trace is written while the run goes on, so its name must be none that the run could change.
 abbrev pub IsFileUsage : Words → List ℕ → Type 0
 IsFileUsage w message =
     ((clash : Clash) × AreGiven w clash × (message ≡ usage_text Cpmrun (clash_reason clash)))
     ⊎ IsTaken w.deps (codes "--deps <FILE>") is_read message ⊎ IsTaken w.trace (codes "--trace <FILE>") is_read message
     ⊎ IsTaken w.deps (codes "--deps <FILE>") is_other message
+    ⊎ IsTaken w.trace (codes "--trace <FILE>") may_change message
     ⊎ IsTaken w.deps (codes "--deps <FILE>") is_changed message ⊎ IsTaken w.trace (codes "--trace <FILE>") is_changed message
 
 -- An error of looking at files before one is changed.
 abbrev pub IsEarly : Words → Fault → Type 0
 IsEarly w (Usage text) = IsFileUsage w (string_bytes text)
-IsEarly w (Folders f) = Unit {0}
+IsEarly w (Folders f) = IsAnyReadFault f
 IsEarly w OutOfMemory = Unit {0}
 IsEarly w fault = ⊥
 
 -- The same, of the option of one report.
 abbrev pub IsTakenFault : Option (Bor Path) → List ℕ → List ℕ → Fault → Type 0
 IsTakenFault report option reason (Usage text) = IsTaken report option reason (string_bytes text)
-IsTakenFault report option reason (Folders f) = Unit {0}
+IsTakenFault report option reason (Folders f) = IsAnyReadFault f
 IsTakenFault report option reason OutOfMemory = Unit {0}
 IsTakenFault report option reason fault = ⊥

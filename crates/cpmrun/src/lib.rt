@@ -19,5 +19,5 @@ pub use edit_lines::{
     Command, Ending, Failed, Over, Reader, ReplayFault, Writer, parse_line, refused_line, replay,
 };
 pub use folders::{FileSystem, SystemFiles};
-pub use requests::{Fault, Tool, program_words, report_fault};
+pub use requests::{Fault, Tool, called_tool, program_words, report_fault};
 pub use streams::Terminal;

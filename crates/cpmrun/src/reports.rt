@@ -1,8 +1,9 @@
-// What a run reports into files: a rule for make, and a trace.
+// The rule for make of a run, and the files of its rule and its trace.
 
-ghost use Rattle.std.specs.Prelude.{◌≡◌, ◌++◌, IfErr, IfOk, OnOk, false, is_some, map, option_map, string_bytes, true};
+ghost use Rattle.std.specs.Prelude.{◌≡◌, ◌++◌, IfErr, IfOk, OnOk, codes, false, is_some, map, option_map, string_bytes, true};
 ghost use Rattle.std.specs.List.{list_all};
 ghost use Rattle.dependencies.specs.Dependencies.{AreDependencies};
+ghost use Rattle.disks.specs.Given.{IsAnyReadFault};
 ghost use Rattle.folders.specs.ChangedBytes.{written_bytes};
 ghost use Rattle.folders.specs.Failures.{KeepsFiles, ReportsPaths};
 ghost use Rattle.folders.specs.Faults.{FailsBy, failure_paths};
@@ -14,18 +15,17 @@ ghost use Rattle.faults.specs.Faults.{file_paths};
 ghost use Rattle.cpmrun.specs.Reports as reports;
 
 use command_words::Words;
-use disks::{is_one_file, report_taken};
+use disks::{is_one_file, leads_to_written, may_be_written, report_taken};
 use folders::{
     Failure, Fault as FolderFault, FileSystem, Id, Kind, Listing, Written, write_failure,
 };
-use machine::{Session, WholeRun};
+use machine::WholeRun;
 use make_rules::rule_of_run;
 use plan::{Before, Deed, Plan};
 use requests::{Fault, taken_fault};
 use std::alloc::{AllocError, Global};
-use tracing::call_trace;
 
-/// A text that is written to a file of the words.
+/// A rule for make, which is written to a file of the words.
 #[derive(Drop)]
 pub struct Report<'a> {
     /// The path of the file.
@@ -93,22 +93,6 @@ pub fn rule_report<'a>(
     };
     let targets = targets(alloc, words, path, written)?;
     let text = rule_of_run(alloc, targets.as_slice(), &words.session(), listings, run)?;
-    Ok(Some(Report { path, text }))
-}
-
-/// Returns the trace of the run of a session, if the words ask for it.
-pub fn trace_report<'a>(
-    alloc: Global,
-    words: &Words<'a>,
-    session: &Session,
-) -> Result<Option<Report<'a>>, AllocError>
-    ensures { IfOk result
-        (λ trace. reports.IsTraceOf words.now session.now (option_map reports.told trace)) }
-{
-    let Some(path) = words.trace else {
-        return Ok(None);
-    };
-    let text = call_trace(alloc, session)?;
     Ok(Some(Report { path, text }))
 }
 
@@ -206,7 +190,8 @@ fn is_changed<S: FileSystem>(
     deeds: &[Deed<'_, Written<'_>>],
     path: &str,
 ) -> Result<bool, Failure>
-    ensures { KeepsFiles failure_paths result (S.files system.old) (S.files system.new) }
+    ensures fault { IfErr result (FailsBy IsAnyReadFault) }
+    ensures unchanged { KeepsFiles failure_paths result (S.files system.old) (S.files system.new) }
 {
     for deed in deeds {
         if is_one_file(system, deed.path(), path)? {
@@ -237,7 +222,23 @@ fn check_unread<'a, S: FileSystem>(
     Ok(())
 }
 
-/// Checks that the files of the reports are different, and none that the run reads.
+// Checks that the path of the trace, which is written while the run goes on, is none that the run may change.
+fn check_trace<'a, S: FileSystem>(system: &mut S, words: &Words<'_>) -> Result<(), Fault<'a>>
+    ensures fault { IfErr result
+        (reports.IsTakenFault words.now.trace (codes "--trace <FILE>") reports.may_change) }
+    ensures unchanged { KeepsFiles file_paths result (S.files system.old) (S.files system.new) }
+{
+    let Some(path) = words.trace else {
+        return Ok(());
+    };
+    if may_be_written(system, words, path)? || leads_to_written(system, words, path)? {
+        let reason = "the run may change a file of this name";
+        return Err(taken_fault(system.alloc(), path, "--trace <FILE>", reason));
+    }
+    Ok(())
+}
+
+/// Checks that the files of the reports are different, and none that the run reads. The one of a trace is none that it may change, either.
 pub fn check_reports<'a, S: FileSystem>(
     system: &mut S,
     words: &Words<'_>,
@@ -248,6 +249,7 @@ pub fn check_reports<'a, S: FileSystem>(
 {
     check_unread(system, words, listings, "--deps <FILE>", words.deps)?;
     check_unread(system, words, listings, "--trace <FILE>", words.trace)?;
+    check_trace(system, words)?;
     let (Some(deps), Some(trace)) = (words.deps, words.trace) else {
         return Ok(());
     };

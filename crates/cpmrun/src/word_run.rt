@@ -1,56 +1,47 @@
 // One run of the session of the words.
 
-ghost use Rattle.std.specs.Prelude.{◌≡◌, IfErr, IfOk, Ok, OnErr, OnOk, is_some, option_map, true};
+ghost use Rattle.std.specs.Prelude.{◌≡◌, ◌++◌, None, Some, IfErr, IfOk, Ok, OnErr, OnOk, is_some, map, option_map, string_bytes, true};
+ghost use Rattle.std.specs.List.{list_all};
 ghost use Rattle.dependencies.specs.Dependencies.{AreDependencies};
+ghost use Rattle.folders.specs.ChangedBytes.{written_bytes};
 ghost use Rattle.folders.specs.Failures.{KeepsFiles, ReportsPaths};
-ghost use Rattle.hostfiles.specs.Files.{files};
+ghost use Rattle.folders.specs.Faults.{FailsBy, failure_paths};
+ghost use Rattle.folders.specs.FileSystem.{HasBytes};
+ghost use Rattle.make_rules.specs.Carried.{is_carried};
 ghost use Rattle.machine.specs.PlainState.{plain_run};
-ghost use Rattle.one_run.specs.Planned.{planned};
+ghost use Rattle.one_run.specs.ChangedList.{changed_by, first_unplaced, planned};
 ghost use Rattle.one_run.specs.RunTexts.{stop_status};
+ghost use Rattle.plan.specs.Faults.{IsAnyWriteFault};
+ghost use Rattle.plan.specs.Wanted.{wanted_of};
 ghost use Rattle.requests.specs.World.{world};
-ghost use Rattle.one_run.specs.declared.planning.Turn.TheVariants.{Outside};
 ghost use Rattle.faults.specs.Faults.{file_paths};
 ghost use Rattle.requests.specs.Programs.{Does, Fails};
-ghost use Rattle.streams.specs.Streams.{Output};
-ghost use Rattle.cpmrun.specs.Reports.{AllowsRule, IsEarly, told, written_folders};
+ghost use Rattle.streams.specs.Streams.{Output, WritesWhole};
+ghost use Rattle.one_run.specs.Trace.{console_text, each_call, trace_text};
+ghost use Rattle.cpmrun.specs.Reports as reports;
+ghost use Rattle.cpmrun.specs.Reports.{AllowsRule, IsEarly, written_folders};
 ghost use Rattle.cpmrun.specs.RunEnds as run_ends;
 
 use crate::reports::{
-    Report, check_changes, check_reports, plan_report, push_paths, rule_report, trace_report,
+    Placing, Report, check_changes, check_reports, plan_report, push_paths, rule_report,
     write_report,
 };
 use command_words::Words;
 use disks::{lock_disks, same_folders};
-use folders::{DriveFolder, FileSystem, Listing, Places, Written};
+use folders::{
+    DriveFolder, Failure, Fault as FolderFault, FileSystem, Listing, Places, Written, write_failure,
+};
 use loading::{Loaded, load};
-use machine::{Cause, Noting, WholeRun};
+use machine::{Cause, Noting, Session, WholeRun};
 use make_rules::check_paths;
-use one_run::{Changes, Turn, report_stop, run_to_end, stop_status};
-use plan::{Plan, carry_out, carry_out_each};
+use one_run::{
+    Disks, Entry, RunFault, Start, Turn, changed_entries, each_call, first_unplaced,
+    is_any_on_disk, no_step, plan_turn, report_stop, run_to_end, stop_status,
+};
+use plan::{Deed, Plan, carry_out, carry_out_each};
 use requests::{Fault, Tool, clash_fault};
 use std::alloc::{AllocError, Global};
-use streams::Writer;
-
-// Returns whether a run that stopped by this cause changes the disks.
-fn changes_disks(words: &Words<'_>, cause: Cause) -> bool
-    ensures { result ≡ run_ends.changes_disks words.now cause }
-{
-    words.partial || matches!(cause, Cause::WarmBoot)
-}
-
-// Returns the paths of the disks on which something is to be done.
-fn changed_disks(alloc: Global, changes: &Changes<'_>) -> Result<Vec<String>, AllocError> {
-    let mut folders = Vec::new(alloc);
-    if !changes.changes_disk() {
-        return Ok(folders);
-    }
-    for disk in changes.places.disks.as_slice() {
-        if let Some(disk) = disk {
-            folders.push(String::from_str(alloc, disk.folder)?)?;
-        }
-    }
-    Ok(folders)
-}
+use streams::{Nowhere, Writer};
 
 // Returns what a run notes: what it asks for, if a rule for make is written.
 fn noting_of(words: &Words<'_>) -> Noting
@@ -69,91 +60,270 @@ fn has_disks(words: &Words<'_>) -> bool
     words.disk.iter().any(|disk| disk.is_some())
 }
 
-// Returns whether an error is that standard output could not be written.
-fn is_unwritten(fault: &Fault<'_>) -> bool
-    ensures { result ≡ run_ends.is_unwritten fault.now }
+// Returns what becomes of the disks after a run that stopped by this cause.
+fn disks_after(words: &Words<'_>, cause: Cause) -> Disks
+    ensures { result ≡ run_ends.disks_after words.now cause }
 {
-    matches!(fault, Fault::CannotWrite)
-}
-
-// Returns the error of a run whose console text was not written in full. No disk is changed then.
-fn text_fault<'a>(words: &Words<'_>, fault: Fault<'a>) -> Fault<'a>
-    ensures { result ≡ run_ends.of_text words.now fault.entry }
-{
-    if is_unwritten(&fault) && has_disks(words) {
-        return Fault::DiskUnchanged;
+    if !has_disks(words) {
+        Disks::Absent
+    } else if words.partial || matches!(cause, Cause::WarmBoot) {
+        Disks::Changed
+    } else {
+        Disks::Unchanged
     }
-    fault
 }
 
-// Plans the rest, and does all: files outside of disks are written one after another, and then the plan for disks is done as a whole, with
-// the reports after the files of the run. A report for what is no regular file is written last.
-fn carry_out_plans<'p, 'a, S: FileSystem>(
+// Returns the error for a console text that was not written in full. No disk is changed then.
+fn unwritten<'a>(words: &Words<'_>) -> Fault<'a>
+    ensures { result ≡ run_ends.unwritten words.now }
+{
+    if has_disks(words) {
+        Fault::DiskUnchanged
+    } else {
+        Fault::CannotWrite
+    }
+}
+
+// Returns the error of a run that was broken off. The one of a trace is known when it is closed.
+fn fault_of<'a>(words: &Words<'_>, fault: RunFault) -> Fault<'a>
+    ensures { result ≡ run_ends.fault_of words.now fault }
+{
+    match fault {
+        RunFault::Console => unwritten(words),
+        RunFault::Trace | RunFault::OutOfMemory => Fault::OutOfMemory,
+    }
+}
+
+// Returns the path to which the trace is written, if the words ask for one. `-` is standard output.
+fn trace_path<'a>(words: &Words<'a>) -> Option<&'a str>
+    ensures { option_map (λ path. path.now) result ≡ reports.trace_path words.now }
+{
+    match words.trace {
+        Some("-") => Some("/dev/stdout"),
+        path => path,
+    }
+}
+
+// Runs a session to its end, and writes its console text.
+fn run_untraced<'s, 'a, O: Writer, E: Writer>(
+    words: &Words<'_>,
+    start: Start<'s>,
+    out: &mut O,
+    err: &mut E,
+) -> Result<WholeRun<'s>, Fault<'a>>
+    ensures session { IfOk result (λ w. w.session.now ≡ start.entry.session.now) }
+    ensures asked { start.entry.noting ≡ Noting.Looks
+        → IfOk result (λ w. AreDependencies start.entry.session.now w.looks w.steps w.cause) }
+    ensures done { OnOk result
+        (WritesWhole (O.output out.old) (O.output out.new) (console_text start.entry.session.now)) }
+    ensures fault { IfErr result (run_ends.BreaksConsole words.now (console_text start.entry.session.now)
+        (O.output out.old) (O.output out.new)) }
+    ensures err { E.output err.new ≡ E.output err.old }
+{
+    match run_to_end(start, &no_step(), out, &mut Nowhere, err) {
+        Ok(run) => Ok(run),
+        Err(fault) => Err(fault_of(words, fault)),
+    }
+}
+
+// Does the same, and writes the trace to this path. An error of the trace comes before one of the console.
+fn run_traced<'s, 'a, S: FileSystem, O: Writer, E: Writer>(
     system: &mut S,
-    outside: Plan<'p, Written<'p>>,
-    mut plan: Plan<'p, Written<'p>>,
-    changes: &Changes<'p>,
-    rule: &'p Option<Report<'_>>,
-    trace: &'p Option<Report<'_>>,
-) -> Result<(), Fault<'a>>
-    requires outside { let own = files changes.now.host.now changes.now.journal.now.entries in
-        run_ends.asked outside.deeds.items ≡ planned Outside changes.now.places changes.now.host.now own }
-    requires disks { let own = files changes.now.host.now changes.now.journal.now.entries in
-        run_ends.asked plan.deeds.items ≡ run_ends.disk_puts changes.now.places changes.now.host.now own }
-    ensures done { let own = files changes.now.host.now changes.now.journal.now.entries in OnOk result
-        (run_ends.CarriesPlan changes.now.places changes.now.host.now own (option_map told rule.entry.now)
-        (option_map told trace.entry.now) (S.files system.old).bytes (S.files system.new).bytes (Ok tt)) }
-    ensures fault { let own = files changes.now.host.now changes.now.journal.now.entries in IfErr result
-        (run_ends.BreaksPlan changes.now.places changes.now.host.now own (option_map told rule.entry.now)
-        (option_map told trace.entry.now) (S.files system.old).bytes (S.files system.new).bytes) }
+    words: &Words<'_>,
+    start: Start<'s>,
+    path: &str,
+    out: &mut O,
+    err: &mut E,
+) -> Result<WholeRun<'s>, Fault<'a>>
+    requires { reports.trace_path words.now ≡ Some path.now }
+    ensures session { IfOk result (λ w. w.session.now ≡ start.entry.session.now) }
+    ensures asked { start.entry.noting ≡ Noting.Looks
+        → IfOk result (λ w. AreDependencies start.entry.session.now w.looks w.steps w.cause) }
+    ensures done { OnOk result
+        (WritesWhole (O.output out.old) (O.output out.new) (console_text start.entry.session.now)) }
+    ensures trace { let text = trace_text each_call start.entry.session.now in
+        OnOk result (HasBytes path.now text (S.files system.old).bytes (S.files system.new).bytes) }
+    ensures fault { IfErr result (run_ends.BreaksConsole words.now (console_text start.entry.session.now)
+        (O.output out.old) (O.output out.new)) }
+    ensures part { let text = trace_text each_call start.entry.session.now in OnErr result
+        (run_ends.BreaksTrace (Some path.now) text (S.files system.old).bytes (S.files system.new).bytes) }
+    ensures err { E.output err.new ≡ E.output err.old }
     ensures failed { ReportsPaths file_paths result (S.files system.old) (S.files system.new) }
 {
-    let rule_placing = plan_report(system, &mut plan, rule)?;
-    let trace_placing = plan_report(system, &mut plan, trace)?;
-    changes.plan(system, &mut plan, Turn::Gone)?;
-    let folders = changed_disks(system.alloc(), changes)?;
+    let named = String::from_str(system.alloc(), path)?;
+    let mut trace = match system.create(path) {
+        Ok(trace) => trace,
+        Err(error) => return Err(write_failure(error, named).into()),
+    };
+    let ran = run_to_end(start, &each_call(), out, &mut trace, err);
+    if let Err(error) = system.close(path, trace) {
+        return Err(write_failure(error, named).into());
+    }
+    match ran {
+        Ok(run) => Ok(run),
+        Err(fault) => Err(fault_of(words, fault)),
+    }
+}
+
+// Runs a session to its end, and writes its console text and its trace while it runs.
+fn run_streams<'s, 'a, S: FileSystem, O: Writer, E: Writer>(
+    system: &mut S,
+    words: &Words<'_>,
+    session: &'s Session,
+    out: &mut O,
+    err: &mut E,
+) -> Result<WholeRun<'s>, Fault<'a>>
+    ensures session { IfOk result (λ w. w.session.now ≡ session.now) }
+    ensures asked { is_some words.now.deps ≡ true
+        → IfOk result (λ w. AreDependencies session.now w.looks w.steps w.cause) }
+    ensures done { OnOk result
+        (WritesWhole (O.output out.old) (O.output out.new) (console_text session.now)) }
+    ensures trace { let text = trace_text each_call session.now in OnOk result (run_ends.WritesTrace
+        (reports.trace_path words.now) text (S.files system.old).bytes (S.files system.new).bytes) }
+    ensures fault { IfErr result
+        (run_ends.BreaksConsole words.now (console_text session.now) (O.output out.old) (O.output out.new)) }
+    ensures part { let text = trace_text each_call session.now in OnErr result (run_ends.BreaksTrace
+        (reports.trace_path words.now) text (S.files system.old).bytes (S.files system.new).bytes) }
+    ensures err { E.output err.new ≡ E.output err.old }
+    ensures failed { ReportsPaths file_paths result (S.files system.old) (S.files system.new) }
+{
+    let start = Start {
+        alloc: system.alloc(),
+        session,
+        noting: noting_of(words),
+    };
+    match trace_path(words) {
+        Some(path) => run_traced(system, words, start, path, out, err),
+        None => run_untraced(words, start, out, err),
+    }
+}
+
+// Plans what is done in a turn on disks, unless they stay unchanged.
+fn plan_on_disks<'p, S: FileSystem>(
+    system: &mut S,
+    plan: &mut Plan<'p, Written<'p>>,
+    disks: Disks,
+    turn: Turn,
+    entries: &[Entry<'p>],
+) -> Result<(), Failure>
+    ensures planned { OnOk result (map (wanted_of written_bytes) plan.new.deeds.items
+        ≡ map (wanted_of written_bytes) plan.old.deeds.items
+        ++ run_ends.on_disks disks (planned turn (map changed_by entries.now))) }
+    ensures fault { IfErr result (FailsBy IsAnyWriteFault) }
+    ensures unchanged { KeepsFiles failure_paths result (S.files system.old) (S.files system.new) }
+{
+    match disks {
+        Disks::Unchanged => Ok(()),
+        _ => plan_turn(system, plan, turn, entries),
+    }
+}
+
+// Returns the paths of the disks on which something is to be done.
+fn changed_disks(
+    alloc: Global,
+    words: &Words<'_>,
+    disks: Disks,
+    entries: &[Entry<'_>],
+) -> Result<Vec<String>, AllocError> {
+    let mut folders = Vec::new(alloc);
+    if !matches!(disks, Disks::Changed) || !is_any_on_disk(entries) {
+        return Ok(folders);
+    }
+    for folder in words.disk {
+        if let Some(folder) = folder {
+            folders.push(String::from_str(alloc, folder)?)?;
+        }
+    }
+    Ok(folders)
+}
+
+// Does what is planned: files outside of disks are written one after another, and then the plan for disks is done as a whole. A rule for what
+// is no regular file is written last.
+fn carry_out_plans<'a, S: FileSystem>(
+    system: &mut S,
+    outside: Plan<'_, Written<'_>>,
+    plan: Plan<'_, Written<'_>>,
+    folders: Vec<String>,
+    rule: &Option<Report<'_>>,
+    placing: Placing,
+) -> Result<(), Fault<'a>>
+    ensures done { OnOk result (run_ends.CarriesPlan
+        (run_ends.asked outside.entry.deeds.items) (run_ends.asked plan.entry.deeds.items)
+        (S.files system.old).bytes (S.files system.new).bytes (Ok tt)) }
+    ensures fault { IfErr result (run_ends.BreaksPlan
+        (run_ends.asked outside.entry.deeds.items) (run_ends.asked plan.entry.deeds.items)
+        (S.files system.old).bytes (S.files system.new).bytes) }
+    ensures failed { ReportsPaths file_paths result (S.files system.old) (S.files system.new) }
+{
     carry_out_each(system, outside)?;
     carry_out(system, plan, folders)?;
-    write_report(system, rule, rule_placing)?;
-    write_report(system, trace, trace_placing)?;
+    write_report(system, rule, placing)?;
     Ok(())
 }
 
-// Changes the files as the run asks, and writes its reports.
-fn finish<'a, S: FileSystem>(
+// Checks that each changed file has a place, if disks are changed. Else a file that the program moved to a drive without one would be lost.
+fn check_places<'a>(disks: Disks, entries: &[Entry<'_>]) -> Result<(), Fault<'a>>
+    ensures placed { OnOk result (disks ≡ Disks.Changed
+        → first_unplaced (map changed_by entries.now) ≡ None) }
+    ensures fault { IfErr result (run_ends.IsUnplaced disks (map changed_by entries.now)) }
+{
+    match (disks, first_unplaced(entries)) {
+        (Disks::Changed, Some(name)) => Err(Fault::Folders(FolderFault::NoFolder(name))),
+        _ => Ok(()),
+    }
+}
+
+// Returns the paths of the files that are put in place.
+fn written_paths(
+    alloc: Global,
+    outside: &[Deed<'_, Written<'_>>],
+    disks: &[Deed<'_, Written<'_>>],
+) -> Result<Vec<String>, AllocError>
+    ensures { IfOk result (λ paths. map string_bytes paths.items
+        ≡ reports.put_paths (run_ends.asked outside.now) ++ reports.put_paths (run_ends.asked disks.now)) }
+{
+    let mut paths = Vec::new(alloc);
+    push_paths(alloc, &mut paths, outside)?;
+    push_paths(alloc, &mut paths, disks)?;
+    Ok(paths)
+}
+
+// Changes the files as the run asks, and writes its rule. All is planned before the first of them is changed.
+fn change<'a, S: FileSystem>(
     system: &mut S,
     words: &Words<'_>,
     listings: &[Option<Listing>; 4],
-    changes: &Changes<'_>,
+    disks: Disks,
+    entries: &[Entry<'_>],
     run: &WholeRun<'_>,
 ) -> Result<(), Fault<'a>>
-    requires host { changes.now.host.now ≡ run.now.session.now.files }
-    requires files { files changes.now.host.now changes.now.journal.now.entries
-        ≡ (plain_run run.now.session.now).state.files }
-    requires places { run_ends.ArePlacesOf words.now listings.now changes.now.places }
+    requires carried { is_some words.now.deps ≡ true → list_all is_carried
+        (reports.put_paths (run_ends.puts disks (map changed_by entries.now))) ≡ true }
     requires words { AllowsRule words.now }
     requires run { is_some words.now.deps ≡ true
         → AreDependencies run.now.session.now run.now.looks run.now.steps run.now.cause }
     ensures done { OnOk result (run_ends.ChangesFiles words.now listings.now run.now.session.now
-        changes.now.places (S.files system.old).bytes (S.files system.new).bytes) }
+        disks (map changed_by entries.now) (S.files system.old).bytes (S.files system.new).bytes) }
     ensures fault { IfErr result (run_ends.BreaksChanges words.now listings.now run.now.session.now
-        changes.now.places (S.files system.old).bytes (S.files system.new).bytes) }
+        disks (map changed_by entries.now) (S.files system.old).bytes (S.files system.new).bytes) }
     ensures failed { ReportsPaths file_paths result (S.files system.old) (S.files system.new) }
 {
+    check_places(disks, entries)?;
+    let rule;
     let mut outside = Plan::new(system.alloc());
-    changes.plan(system, &mut outside, Turn::Outside)?;
+    plan_turn(system, &mut outside, Turn::Outside, entries)?;
     let mut plan = Plan::new(system.alloc());
-    changes.plan(system, &mut plan, Turn::New)?;
-    changes.plan(system, &mut plan, Turn::Replacing)?;
+    plan_on_disks(system, &mut plan, disks, Turn::New, entries)?;
+    plan_on_disks(system, &mut plan, disks, Turn::Replacing, entries)?;
     check_changes(system, words, outside.deeds.as_slice())?;
     check_changes(system, words, plan.deeds.as_slice())?;
     let alloc = system.alloc();
-    let mut written = Vec::new(alloc);
-    push_paths(alloc, &mut written, outside.deeds.as_slice())?;
-    push_paths(alloc, &mut written, plan.deeds.as_slice())?;
-    let rule = rule_report(alloc, words, listings, written, run)?;
-    let trace = trace_report(alloc, words, run.session)?;
-    carry_out_plans(system, outside, plan, changes, &rule, &trace)
+    let written = written_paths(alloc, outside.deeds.as_slice(), plan.deeds.as_slice())?;
+    rule = rule_report(alloc, words, listings, written, run)?;
+    let placing = plan_report(system, &mut plan, &rule)?;
+    plan_on_disks(system, &mut plan, disks, Turn::Gone, entries)?;
+    let folders = changed_disks(alloc, words, disks, entries)?;
+    carry_out_plans(system, outside, plan, folders, &rule, placing)
 }
 
 // Runs a session that was loaded once, and reports its stop. Returns the exit status for the stop.
@@ -177,23 +347,23 @@ fn run_loaded<'r, 'a, S: FileSystem, O: Writer, E: Writer>(
     ensures failed { ReportsPaths file_paths result (S.files system.old) (S.files system.new) }
 {
     check_reports(system, words, &loaded.listings)?;
-    let noting = noting_of(words);
-    let run = match run_to_end(system.alloc(), &loaded.session, noting, out, err) {
-        Ok(run) => run,
-        Err(fault) => return Err(text_fault(words, fault)),
-    };
-    let changed = changes_disks(words, run.cause());
+    let run = run_streams(system, words, &loaded.session, out, err)?;
+    let disks = disks_after(words, run.cause());
     let places = Places {
         out: words.out,
         disks: DriveFolder::with_names(&words.disk, &loaded.listings),
     };
-    let changes = Changes {
-        places,
-        host: run.session.files(),
-        journal: run.journal(),
-    };
-    finish(system, words, &loaded.listings, &changes.at(changed), &run)?;
-    report_stop(run.cause(), &changes, changed, err);
+    let alloc = system.alloc();
+    let entries = changed_entries(alloc, &places, run.session.files(), run.journal())?;
+    change(
+        system,
+        words,
+        &loaded.listings,
+        disks,
+        entries.as_slice(),
+        &run,
+    )?;
+    report_stop(run.cause(), disks, entries.as_slice(), err);
     Ok(stop_status(run.cause()))
 }
 

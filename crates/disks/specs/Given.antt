@@ -1,5 +1,5 @@
 -- The folders that words give, and why one is not found. (This project's own.)
-use Rattle.std.specs.Prelude.{◌≡◌, ◌≢◌, ◌<◌, ◌⊎◌, ℕ, List, [], ◌∷◌, ◌++◌, Option, Some, None, get_or, map, take, is_some, length}
+use Rattle.std.specs.Prelude.{◌≡◌, ◌≢◌, ◌<◌, ◌⊎◌, ℕ, List, [], ◌∷◌, ◌++◌, Option, Some, None, true, get_or, map, take, is_some, length}
 use Rattle.std.specs.Borrow.{Bor}
 use Rattle.std.specs.List.{Contains, filter}
 use Rattle.command_words.specs.Clashes.{disk_options, files_options, out_options}
@@ -8,6 +8,7 @@ use Rattle.command_words.specs.declared.clashes.Clash.TheVariants.{SameFolder}
 use Rattle.command_words.specs.declared.words.Words.{Words}
 use Rattle.folders.specs.Faults.{IsReadFault}
 use Rattle.folders.specs.FileSystem.{Path}
+use Rattle.folders.specs.FolderNames.{key_in}
 use Rattle.folders.specs.declared.fault.Fault.{Fault}
 use Rattle.folders.specs.declared.fault.Fault.TheVariants.{CannotRead}
 
@@ -59,6 +60,17 @@ pub record IsNameOf (path name : Path) : Type 0 where
 -- Two paths have the same name.
 abbrev pub HaveOneName : Path → Path → Type 0
 HaveOneName one other = (name : Path) × IsNameOf one name × IsNameOf other name
+
+-- The words give a disk or a folder for changed files.
+abbrev pub HasPlaces : Words → Type 0
+HasPlaces w = (option : List ℕ) × IsGiven w 8 option
+
+-- A run of the words may write a file at this path: the words give a place for files, and the name of the path is valid on any drive.
+pub record MayBeWritten (w : Words) (path : Path) : Type 0 where
+  pub places : HasPlaces w
+  pub name : Path
+  pub is : IsNameOf path name
+  pub valid : (drive : ℕ) → is_some (key_in drive name) ≡ true
 
 -- What is at one of two paths could not be found.
 abbrev pub IsEitherFault : Path → Path → Fault → Type 0

@@ -10,8 +10,8 @@ use crate::ids::id_at;
 use command_words::{Clash, Words};
 use folders::{Failure, FileSystem, Id};
 
-/// How many of the folders are written to.
-const WRITTEN: usize = 8;
+/// How many of the folders are written to. They come first.
+pub const WRITTEN: usize = 8;
 
 /// A folder that was found: which it is, and its option.
 #[derive(Clone, Copy)]

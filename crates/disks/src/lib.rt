@@ -2,7 +2,7 @@
 //!
 //! - `ids`: which file or folder is at a path
 //! - `clashes`, `locks`: two options with the same folder; the locked disks
-//! - `reports`: whether a report would be written over a file of the run
+//! - `reports`: whether a report would be written over a file of the run, or a run over a report
 #![tactic(auto)]
 
 mod clashes;
@@ -12,4 +12,4 @@ mod reports;
 
 pub use clashes::same_folders;
 pub use locks::lock_disks;
-pub use reports::{is_one_file, report_taken};
+pub use reports::{is_one_file, leads_to_written, may_be_written, report_taken};

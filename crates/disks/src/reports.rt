@@ -3,12 +3,13 @@
 ghost use Rattle.std.specs.Prelude.{◌≡◌, IfErr, IfOk, IfSome, true};
 ghost use Rattle.folders.specs.Failures.{KeepsFiles};
 ghost use Rattle.folders.specs.Faults.{FailsBy, failure_paths};
-ghost use Rattle.disks.specs.Given.{HaveOneName, IsAnyReadFault, IsNameOf};
+ghost use Rattle.disks.specs.Given.{HasPlaces, HaveOneName, IsAnyReadFault, IsNameOf, MayBeWritten};
 
+use crate::clashes::{WRITTEN, folders_of};
 use crate::ids::{are_same, id_at};
 use command_words::Words;
-use filenames::Key;
-use folders::{Failure, FileSystem, Id, Listing, path_in};
+use filenames::{Drive, Key};
+use folders::{Failure, FileSystem, Id, Listing, name_in_folder, path_in, read_failure};
 
 // Returns the folder of a path and the name in it, if there is a name after the last `/`.
 fn folder_and_name(path: &str) -> Option<(&str, &str)>
@@ -121,4 +122,102 @@ pub fn report_taken<S: FileSystem>(
         }
     }
     is_host_file(system, words, listings, id)
+}
+
+// Returns whether a folder is a disk or a folder for changed files. A folder that is not there is the same as no other.
+fn is_written_to<S: FileSystem>(
+    system: &mut S,
+    words: &Words<'_>,
+    folder: &str,
+) -> Result<bool, Failure>
+    ensures places { IfOk result (λ is. is ≡ true → HasPlaces words.now) }
+    ensures fault { IfErr result (FailsBy IsAnyReadFault) }
+    ensures unchanged { KeepsFiles failure_paths result (S.files system.old) (S.files system.new) }
+{
+    let Some(id) = id_at(system, folder)? else {
+        return Ok(false);
+    };
+    let folders = folders_of(words);
+    for at in 0..WRITTEN {
+        let (_, written) = folders[at];
+        if let Some(written) = written
+            && id_at(system, written)? == Some(id)
+        {
+            return Ok(true);
+        }
+    }
+    Ok(false)
+}
+
+// Returns whether this is a file of a folder, under a name that is valid for a file of CP/M.
+fn is_valid_file_in<S: FileSystem>(system: &mut S, folder: &str, id: Id) -> Result<bool, Failure>
+    ensures fault { IfErr result (FailsBy IsAnyReadFault) }
+    ensures unchanged { KeepsFiles failure_paths result (S.files system.old) (S.files system.new) }
+{
+    let named = String::from_str(system.alloc(), folder)?;
+    let names = match system.list(folder) {
+        Ok(names) => names,
+        Err(error) => return Err(read_failure(error, named)),
+    };
+    for name in names.as_slice() {
+        if name_in_folder(Drive::A, name.as_str()).is_none() {
+            continue;
+        }
+        let path = path_in(system.alloc(), folder, name.as_str())?;
+        if id_at(system, path.as_str())? == Some(id) {
+            return Ok(true);
+        }
+    }
+    Ok(false)
+}
+
+/// Returns whether the file at a path, or the one that a link there leads to, is in a folder for changed files, under a name that is valid for a
+/// file of CP/M. On a disk this is a file that the run reads.
+///
+/// # Errors
+///
+/// Returns `Err` if the system does not say which files are in a folder or which file is at a path, or if an allocation fails.
+pub fn leads_to_written<S: FileSystem>(
+    system: &mut S,
+    words: &Words<'_>,
+    path: &str,
+) -> Result<bool, Failure>
+    ensures fault { IfErr result (FailsBy IsAnyReadFault) }
+    ensures unchanged { KeepsFiles failure_paths result (S.files system.old) (S.files system.new) }
+{
+    let Some(id) = id_at(system, path)? else {
+        return Ok(false);
+    };
+    for folder in words.out {
+        if let Some(folder) = folder
+            && id_at(system, folder)?.is_some()
+            && is_valid_file_in(system, folder, id)?
+        {
+            return Ok(true);
+        }
+    }
+    Ok(false)
+}
+
+/// Returns whether a run may write a file at this path: the path is on a disk or in a folder for changed files, and its name is valid for a
+/// file of CP/M, in upper or lower case. Only the path counts: a link at the path is not followed.
+///
+/// # Errors
+///
+/// Returns `Err` if the system does not say which folder is at a path, or if an allocation fails.
+pub fn may_be_written<S: FileSystem>(
+    system: &mut S,
+    words: &Words<'_>,
+    path: &str,
+) -> Result<bool, Failure>
+    ensures allowed { IfOk result (λ may. may ≡ true → MayBeWritten words.now path.now) }
+    ensures fault { IfErr result (FailsBy IsAnyReadFault) }
+    ensures unchanged { KeepsFiles failure_paths result (S.files system.old) (S.files system.new) }
+{
+    match folder_and_name(path) {
+        Some((folder, name)) if name_in_folder(Drive::A, name).is_some() => {
+            is_written_to(system, words, folder)
+        }
+        _ => Ok(false),
+    }
 }

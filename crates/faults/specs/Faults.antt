@@ -1,7 +1,8 @@
 -- The errors of the programs: the exit status and the message of each. (This project's own.)
-use Rattle.std.specs.Prelude.{◌≡◌, ℕ, ◌==◌, ◌||◌, nat_le, if◌then◌else◌, List, [], ◌∷◌, ◌⊎◌, ◌++◌, codes, string_bytes, take}
-use Rattle.std.specs.List.{flat_map}
+use Rattle.std.specs.Prelude.{◌≡◌, ℕ, ◌==◌, ◌||◌, Bool, nat_eq, nat_le, if◌then◌else◌, List, [], ◌∷◌, ◌⊎◌, ◌++◌, codes, string_bytes, take}
+use Rattle.std.specs.List.{ends_with, flat_map}
 use Rattle.std.specs.Fmt.{decimal}
+use Rattle.std.specs.Str.{bytes_eq}
 use Rattle.folders.specs.Faults.{fault_paths, text_of}
 use Rattle.folders.specs.FileSystem.{Path}
 use Rattle.folders.specs.declared.fault.Failure.{Failure}
@@ -39,6 +40,13 @@ abbrev pub name_of : Tool → List ℕ
 name_of Cpmrun = codes "cpmrun"
 name_of Cpmdeps = codes "cpmdeps"
 name_of Cpmtrace = codes "cpmtrace"
+
+-- The program of a path by which it is called, which is the name or ends with `/` and the name. Any other name is one of `cpmrun`.
+abbrev pub is_called : List ℕ → List ℕ → Bool
+is_called name path = bytes_eq path name || ends_with nat_eq path (47 ∷ name)
+
+abbrev pub called_by : List ℕ → Tool
+called_by path = if is_called (codes "cpmdeps") path then Cpmdeps else if is_called (codes "cpmtrace") path then Cpmtrace else Cpmrun
 
 -- A byte of a message: a control character after a `\`, as cpmtrace shows it, since a path may have one.
 abbrev pub shown_byte : ℕ → List ℕ

@@ -1,5 +1,5 @@
 -- Names of files in the folder of a drive.
-use Rattle.std.proofs.Common.{◌≡◌, ℕ, Bool, true, false, cond, ◌&&◌, ◌||◌, List, [], ◌∷◌, length, drop, nat_lt, slice_index, Option, Some, None, refl, ap, sym, ◌∙◌}
+use Rattle.std.proofs.Common.{◌≡◌, ℕ, Bool, true, false, cond, ◌&&◌, ◌||◌, List, [], ◌∷◌, length, drop, nat_lt, slice_index, Option, Some, None, is_some, refl, ap, sym, ◌∙◌}
 use Rattle.std.specs.Prelude.{Result, Ok, Err, slice_set, ◌==◌}
 use Rattle.std.specs.List.{before_first, after_first, list_any}
 use Rattle.filenames.specs.Names.{Key, is_colon, is_dot, is_valid, key_of, key_or_refusal, name_on_drive, drive_of, name_without_drive, has_drive, name_of}
@@ -36,6 +36,15 @@ by_tests false false false drive key other e = refl
 named_on : (drive : ℕ) (name kind : List ℕ) → key_or_refusal drive name kind ≡ put_on drive (key_or_refusal 0 name kind)
 unfolding key_or_refusal
 named_on drive name kind = by_tests (length name == 0) (nat_lt 8 (length name) || nat_lt 3 (length kind)) (is_valid name && is_valid kind) drive (key_of 0 name kind) (key_of drive name kind) refl
+
+some_on : (b : Bool) (drive : ℕ) (plain named : Result Key ℕ) → named ≡ put_on drive plain → is_some (cond b None (ok_or_none named)) ≡ is_some (cond b None (ok_or_none plain))
+some_on true drive plain named e = refl
+some_on false drive (Ok key) named e = ap (λ r. is_some (ok_or_none r)) e
+some_on false drive (Err n) named e = ap (λ r. is_some (ok_or_none r)) e
+
+-- A name is valid on each drive or on none.
+pub valid_on : (drive : ℕ) (file : List ℕ) → is_some (key_in drive file) ≡ is_some (key_in 0 file)
+valid_on drive file = some_on (list_any is_colon file) drive _ _ (named_on drive (before_first is_dot file) (after_first is_dot file))
 
 plain_of : (file : List ℕ) → list_any is_colon file ≡ false → name_of file ≡ name_without_drive 0 file
 unfolding name_of

@@ -5,3 +5,4 @@ pub mod FilesLemmas
 pub mod ListingLemmas
 pub mod ReadLemmas
 pub mod WriteLemmas
+pub mod WrittenFiles

@@ -1,12 +1,16 @@
 -- Why folders are not read or a file is not written, and the message for it. (This project's own.)
-use Rattle.std.specs.Prelude.{◌≡◌, ℕ, List, [], ◌∷◌, ◌++◌, codes, string_bytes}
+use Rattle.std.specs.Prelude.{◌≡◌, ◌+◌, ℕ, List, [], ◌∷◌, ◌++◌, codes, slice_index, string_bytes}
 use Rattle.std.specs.Fmt.{decimal}
-use Rattle.filenames.specs.Names.{display_text}
+use Rattle.filenames.specs.Names.{Key, display_text}
 use Rattle.folders.specs.FileSystem.{Path}
 use Rattle.folders.specs.declared.fault.Fault.{Fault}
-use Rattle.folders.specs.declared.fault.Fault.TheVariants.{CannotRead, CannotWrite, CannotMove, Changed, Irregular, Crowded, TwoFiles, Refused}
+use Rattle.folders.specs.declared.fault.Fault.TheVariants.{CannotRead, CannotWrite, CannotMove, Changed, Irregular, Crowded, NoFolder, TwoFiles, Refused}
 use Rattle.folders.specs.declared.fault.Failure.{Failure}
 use Rattle.folders.specs.declared.fault.Failure.TheVariants.{AtFault, OutOfMemory}
+
+-- The letter of the drive of a file.
+abbrev pub letter_of : Key → List ℕ
+letter_of name = (65 + slice_index name 0) ∷ []
 
 -- The message for an error.
 abbrev pub text_of : Fault → List ℕ
@@ -16,6 +20,7 @@ text_of (CannotMove path other) = codes "cannot write " ++ string_bytes path ++ 
 text_of (Changed path) = codes "cannot write " ++ string_bytes path ++ codes ": it was changed meanwhile"
 text_of (Irregular path) = codes "cannot write " ++ string_bytes path ++ codes ": it is no regular file"
 text_of (Crowded path) = codes "cannot write " ++ string_bytes path ++ codes ": no temporary name beside it is free"
+text_of (NoFolder name) = codes "cannot write " ++ display_text name ++ codes ": drive " ++ letter_of name ++ codes " has no folder"
 text_of (TwoFiles name) = codes "two files are " ++ display_text name
 text_of (Refused name n) = codes "file " ++ display_text name ++ codes " refused " ++ decimal n
 

@@ -1,9 +1,10 @@
 -- What a file system stores, and what its calls do to it. (This project's own.)
-use Rattle.std.specs.Prelude.{◌≡◌, ◌⊎◌, ℕ, Bool, true, false, List, Contains, take, Option, Some, None, IsSome, ⊤}
+use Rattle.std.specs.Prelude.{◌≡◌, ◌⊎◌, ℕ, Bool, true, false, List, [], ◌∷◌, Contains, take, Option, Some, None, IsSome, ⊤}
 use Rattle.std.specs.Option.{option_and_then}
 use Rattle.std.specs.Ordering.{nat_cmp}
 use Rattle.std.specs.Cmp.Lexicographic.{slice_cmp}
 use Rattle.std.specs.FinMap.{FinMap, contains_key, get, insert, remove}
+use Rattle.streams.specs.Streams.{Output}
 use Rattle.folders.specs.declared.file_system.Kind.{Kind}
 use Rattle.folders.specs.declared.file_system.Kind.TheVariants.{Regular}
 
@@ -65,6 +66,21 @@ AddsOnly paths (Some files) after =
 abbrev pub ChangesOnly : List Path → Option FileBytes → Option FileBytes → Type 0
 ChangesOnly paths None after = ⊤
 ChangesOnly paths (Some files) after = (now : FileBytes) × (after ≡ Some now) × ((p : Path) → (get now p ≡ get files p) ⊎ Contains paths p)
+
+-- An output that is opened has not failed, and holds nothing, if the files are known.
+abbrev pub IsNewOutput : Option FileBytes → Output → Type 0
+IsNewOutput None output = output.failures ≡ 0
+IsNewOutput (Some files) output = (output.holds ≡ Some []) × (output.failures ≡ 0)
+
+-- If the files are known, the file of this path has these bytes and the others are unchanged; or there is no regular file at the path, but
+-- a device, a pipe or a link, and all are unchanged.
+abbrev pub HasBytes : Path → List ℕ → Option FileBytes → Option FileBytes → Type 0
+HasBytes path bytes before after = Becomes before after (λ files. insert files path bytes) ⊎ (IsFree path before × (after ≡ before))
+
+-- The same for what an output holds. If that is not known, no other file changes.
+abbrev pub HasWritten : Path → Option (List ℕ) → Option FileBytes → Option FileBytes → Type 0
+HasWritten path None before after = ChangesOnly (path ∷ []) before after
+HasWritten path (Some bytes) before after = HasBytes path bytes before after
 
 -- The file of one path is moved to another, replacing what was there.
 abbrev pub with_file_at : Path → Option (List ℕ) → FileBytes → FileBytes

@@ -1,6 +1,6 @@
 -- Where the changed files of a run are written: onto the disk of their drive, which is a folder where each file keeps the name that it has
 -- there, or into another folder under their printed names. (This project's profile.)
-use Rattle.std.specs.Prelude.{ℕ, Bool, [], ◌∷◌, Option, Some, None, get_or, is_some, option_map, slice_index, string_bytes, unwrap_or}
+use Rattle.std.specs.Prelude.{ℕ, Bool, Option, Some, None, get_or, is_some, option_map, slice_index, string_bytes, unwrap_or}
 use Rattle.std.specs.Borrow.{Bor}
 use Rattle.std.specs.FinMap.{get}
 use Rattle.filenames.specs.Names.{Key}
@@ -14,12 +14,9 @@ use Rattle.folders.specs.declared.places.Places.{Places}
 abbrev pub path_on : DriveFolder → Key → Path
 path_on disk key = path_text disk.folder.now (unwrap_or (option_map string_bytes (get disk.listing.now.files key)) (new_name disk.listing.now.lower key))
 
--- Whether the drive with a number has a disk, and the places without disks.
+-- Whether the drive with a number has a disk.
 abbrev pub has_disk : Places → ℕ → Bool
 has_disk p drive = is_some (get_or p.disks drive None)
-
-abbrev pub without_disks : Places → Places
-without_disks p = record { out = p.out; disks = None ∷ None ∷ None ∷ None ∷ [] }
 
 -- The path from which a file that is gone is removed, if its drive has a disk.
 abbrev pub removed_place_of : Places → Key → Option Path

@@ -1,8 +1,9 @@
-ghost use Rattle.std.specs.Prelude.{◌≡◌, string_bytes};
+ghost use Rattle.std.specs.Prelude.{◌≡◌, ◌+◌, ◌∷◌, [], string_bytes};
+ghost use Rattle.filenames.specs.Drives.{drive_number};
 ghost use Rattle.folders.specs.Failures.{io_paths};
 ghost use Rattle.folders.specs.Faults.{FailsBy, IsReadFault, IsWriteFault, failure_paths};
 
-use filenames::Name;
+use filenames::{Drive, Name};
 use std::alloc::AllocError;
 use std::io::ErrorKind;
 use std::{fmt, io};
@@ -22,6 +23,8 @@ pub enum Fault {
     Irregular(String),
     /// Beside this path no temporary name is free.
     Crowded(String),
+    /// The changed file of this name is on a drive without a folder.
+    NoFolder(Name),
     /// Two files in a folder have this name, the first such by its key.
     TwoFiles(Name),
     /// The host file of this name is refused, with the number of `FilesError`: 1 for more than 8,388,608 bytes, 2 for a 513th
@@ -70,9 +73,25 @@ impl fmt::Display for Fault {
                     "cannot write {path}: no temporary name beside it is free"
                 )
             }
+            Fault::NoFolder(name) => {
+                let letter = letter(name.drive());
+                write!(f, "cannot write {name}: drive {letter} has no folder")
+            }
             Fault::TwoFiles(name) => write!(f, "two files are {name}"),
             Fault::Refused(name, number) => write!(f, "file {name} refused {number}"),
         }
+    }
+}
+
+// Returns the letter of a drive.
+fn letter(drive: Drive) -> &'static str
+    ensures { result.now ≡ (65 + drive_number drive) ∷ [] }
+{
+    match drive {
+        Drive::A => "A",
+        Drive::B => "B",
+        Drive::C => "C",
+        Drive::D => "D",
     }
 }
 

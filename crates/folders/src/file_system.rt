@@ -4,16 +4,18 @@ ghost use Rattle.std.specs.Prelude.{◌≡◌, ◌<◌, ◌∷◌, ℕ, List, []
 ghost use Rattle.std.specs.FinMap.{insert, remove};
 ghost use Rattle.std.specs.Io.KnownBytes.{Appends};
 ghost use Rattle.folders.specs.Failures.{AddsPaths, KeepsFiles, ReportsPaths, io_paths};
-ghost use Rattle.folders.specs.FileSystem.{AddsOnly, Becomes, ChangesOnly, IsFree, IsKindAt, Opens, ReadsFile, StoredFiles, files_after_rename};
+ghost use Rattle.folders.specs.FileSystem.{AddsOnly, Becomes, ChangesOnly, HasBytes, HasWritten, IsFree, IsKindAt, IsNewOutput};
+ghost use Rattle.folders.specs.FileSystem.{Opens, ReadsFile, StoredFiles, files_after_rename};
 ghost use Rattle.streams.specs.Trails.{paths};
 
+use crate::system_output::{Destination, SystemOutput};
 use std::alloc::Global;
-use std::fs::{File, OpenFile, OpenOptions, Permissions, read_dir};
+use std::fs::{File, Metadata, OpenFile, OpenOptions, Permissions, read_dir};
 use std::io::{BufWriter, ErrorKind, Read, Write};
 use std::os::unix::fs::{FileTypeExt, MetadataExt, OpenOptionsExt};
-use std::rt::Files;
+use std::rt::{Files, Stderr, Stdout};
 use std::{fs, io};
-use streams::{Over, Reader, Trail};
+use streams::{Over, Reader, Trail, Writer};
 
 /// Bytes that can be written, such as the bytes of a file that is kept in parts.
 pub trait Contents {
@@ -52,6 +54,9 @@ pub trait FileSystem {
     /// An open file that is read.
     type Input: Reader + Drop;
 
+    /// An open file that is written piece by piece.
+    type Output: Writer + Drop;
+
     /// A folder that is locked until this is dropped.
     type Lock: Drop;
 
@@ -74,6 +79,22 @@ pub trait FileSystem {
         ensures bytes { (files self.new).bytes ≡ (files self.old).bytes }
         ensures names { (files self.new).names ≡ (files self.old).names }
         ensures failed { (files self.new).failed ≡ path.now ∷ (files self.old).failed };
+
+    /// Opens what is at a path to write it piece by piece: a file, which is made or emptied, or what a link, a device or a pipe leads to. If
+    /// that is standard output or standard error, what is written goes to this stream, and nothing is opened or emptied.
+    fn create(&mut self, path: &str) -> io::Result<Self::Output>
+        ensures opened { IfOk result
+            (λ output. IsNewOutput (files self.old).bytes (Self.Output.output output)) }
+        ensures made { OnOk result (HasBytes path.now [] (files self.old).bytes (files self.new).bytes) }
+        ensures err { OnErr result ((files self.new).bytes ≡ (files self.old).bytes) }
+        ensures failed { ReportsPaths (io_paths path.now) result (files self.old) (files self.new) };
+
+    /// Closes what was opened to be written. It is an error if a write failed. A contract sees what was written from then on.
+    fn close(&mut self, path: &str, output: Self::Output) -> io::Result<()>
+        ensures whole { OnOk result ((Self.Output.output output).failures ≡ 0) }
+        ensures written { HasWritten path.now (Self.Output.output output).holds
+            (files self.old).bytes (files self.new).bytes }
+        ensures failed { ReportsPaths (io_paths path.now) result (files self.old) (files self.new) };
 
     /// Reads what is at a path, which may be a pipe or a device: all of its bytes, or its first `most` if it has more.
     fn read(&mut self, path: &str, most: u64) -> io::Result<Vec<u8>>
@@ -180,20 +201,43 @@ fn read_first<T: Read + Drop>(alloc: Global, source: T, most: u64) -> io::Result
     Ok(bytes)
 }
 
+// Returns which file, folder, device or pipe was found.
+fn id_in(found: &Metadata) -> Id {
+    Id {
+        device: found.dev(),
+        number: found.ino(),
+    }
+}
+
 /// The files of the operating system. A contract knows only the paths at which they failed.
 #[derive(Drop)]
 pub struct SystemFiles<'a, R> {
     rt: &'a R,
+    streams: Option<(Stdout, Stderr)>,
     failed: Trail,
 }
 
 impl<'a, R> SystemFiles<'a, R> {
-    /// Returns the files that a runtime reaches, with no failure yet.
+    /// Returns the files that a runtime reaches, with no failure yet. A path that leads to standard output or standard error is opened as any
+    /// other.
     pub fn new(rt: &'a R) -> SystemFiles<'a, R>
         ensures { paths result.failed ≡ [] }
     {
         SystemFiles {
             rt,
+            streams: None,
+            failed: Trail::new(),
+        }
+    }
+
+    /// Returns the files that a runtime reaches, with no failure yet. If a path leads to standard output or standard error, `create` returns
+    /// that stream.
+    pub fn with_streams(rt: &'a R, out: Stdout, err: Stderr) -> SystemFiles<'a, R>
+        ensures { paths result.failed ≡ [] }
+    {
+        SystemFiles {
+            rt,
+            streams: Some((out, err)),
             failed: Trail::new(),
         }
     }
@@ -233,10 +277,7 @@ impl<R: Files<File = File> + AllocGlobal + Clone + Drop> SystemFiles<'_, R> {
 
     fn id_of(&self, path: &str) -> io::Result<Option<Id>> {
         match fs::metadata(self.rt, path) {
-            Ok(found) if found.is_file() || found.is_dir() => Ok(Some(Id {
-                device: found.dev(),
-                number: found.ino(),
-            })),
+            Ok(found) if found.is_file() || found.is_dir() => Ok(Some(id_in(&found))),
             Ok(_) => Ok(None),
             Err(error) => match error.kind() {
                 ErrorKind::NotFound | ErrorKind::NotADirectory => Ok(None),
@@ -320,17 +361,64 @@ impl<R: Files<File = File> + AllocGlobal + Clone + Drop> SystemFiles<'_, R> {
         Ok(())
     }
 
-    fn write_through<C: Contents>(&self, path: &str, contents: &C) -> io::Result<()> {
+    // Opens what is at a path, or at the end of a link, to write it. A file is made or emptied.
+    fn open_to_write(&self, path: &str) -> io::Result<File> {
         let mut options = OpenOptions::new();
         options.write(true).create(true).truncate(true);
-        let opened = options.open(self.rt, path)?;
+        options.open(self.rt, path)
+    }
+
+    fn write_through<C: Contents>(&self, path: &str, contents: &C) -> io::Result<()> {
+        let opened = self.open_to_write(path)?;
         write_whole(self.rt.alloc(), opened, contents)?;
         Ok(())
+    }
+
+    // Returns which file, folder, device or pipe is at a path, or at the end of a link, or `None` if nothing is there.
+    fn found_at(&self, path: &str) -> io::Result<Option<Id>> {
+        match fs::metadata(self.rt, path) {
+            Ok(found) => Ok(Some(id_in(&found))),
+            Err(error) if error.kind() == ErrorKind::NotFound => Ok(None),
+            Err(error) => Err(error),
+        }
+    }
+
+    // Returns the stream to which a path leads, if it is standard output or standard error.
+    fn stream_at(&self, path: &str) -> io::Result<Option<Destination>> {
+        let (Some((out, err)), Some(id)) = (self.streams, self.found_at(path)?) else {
+            return Ok(None);
+        };
+        if self.found_at("/dev/fd/1")? == Some(id) {
+            return Ok(Some(Destination::Stdout(out)));
+        }
+        if self.found_at("/dev/fd/2")? == Some(id) {
+            return Ok(Some(Destination::Stderr(err)));
+        }
+        Ok(None)
+    }
+
+    // Takes the numbers up to that of standard output, if this is closed: else the next file that is opened could get it, and what is written
+    // to standard output. Nothing can be written to a folder.
+    fn guards(&self) -> io::Result<Option<(File, File)>> {
+        if self.found_at("/dev/fd/1")?.is_some() {
+            return Ok(None);
+        }
+        Ok(Some((fs::open(self.rt, "/")?, fs::open(self.rt, "/")?)))
+    }
+
+    fn destination_at(&self, path: &str) -> io::Result<Destination> {
+        if let Some(stream) = self.stream_at(path)? {
+            return Ok(stream);
+        }
+        let guards = self.guards()?;
+        Ok(Destination::File(self.open_to_write(path)?, guards))
     }
 }
 
 impl<R: Files<File = File> + AllocGlobal + Clone + Drop> FileSystem for SystemFiles<'_, R> {
     type Input = Over<File>;
+
+    type Output = SystemOutput;
 
     type Lock = File;
 
@@ -347,6 +435,15 @@ impl<R: Files<File = File> + AllocGlobal + Clone + Drop> FileSystem for SystemFi
 
     fn note_failed_read(&mut self, path: &str, _input: &Over<File>) {
         self.failed = self.failed.and(path);
+    }
+
+    fn create(&mut self, path: &str) -> io::Result<SystemOutput> {
+        let opened = self.destination_at(path);
+        Ok(SystemOutput::new(self.note(path, opened)?))
+    }
+
+    fn close(&mut self, path: &str, output: SystemOutput) -> io::Result<()> {
+        self.note(path, output.close())
     }
 
     fn read(&mut self, path: &str, most: u64) -> io::Result<Vec<u8>> {

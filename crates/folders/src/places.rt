@@ -1,7 +1,6 @@
 // Where the changed files of a run are written.
 
-ghost use Rattle.std.specs.Prelude.{◌≡◌, ◌∷◌, [], IfOk, is_some, option_map, string_bytes};
-ghost use Rattle.std.specs.List.{list_any};
+ghost use Rattle.std.specs.Prelude.{◌≡◌, IfOk, option_map, string_bytes};
 ghost use Rattle.filenames.specs.Drives.{drive_number};
 ghost use Rattle.folders.specs.Places as places;
 
@@ -11,7 +10,7 @@ use filenames::{Drive, Name};
 use std::alloc::{AllocError, Global};
 
 /// Where the changed files of each drive, A to D, are written. On a disk each file keeps the name that it has there, a new file gets a name
-/// in the case of most names there, and a file that is gone is removed. Of a drive that has both, the disk counts.
+/// in the case of most names there, and a file that is gone is removed. The words of a command line give no drive both.
 #[derive(Clone, Copy)]
 pub struct Places<'a> {
     /// The folders into which changed files are written.
@@ -21,35 +20,11 @@ pub struct Places<'a> {
 }
 
 impl<'a> Places<'a> {
-    /// Returns the same places without the disks.
-    pub fn without_disks(self) -> Places<'a>
-        ensures { result ≡ places.without_disks self.entry }
-    {
-        Places {
-            out: self.out,
-            disks: [None; 4],
-        }
-    }
-
     /// Returns whether a drive has a disk.
     pub fn has_disk(&self, drive: Drive) -> bool
         ensures { result ≡ places.has_disk self.now (drive_number drive) }
     {
         matches!(self.disks.get(drive.number() as usize), Some(Some(_)))
-    }
-
-    /// Returns whether any drive has a disk.
-    pub fn has_disks(&self) -> bool
-        ensures { result ≡ list_any (places.has_disk self.now) (0 ∷ 1 ∷ 2 ∷ 3 ∷ []) }
-    {
-        Drive::ALL.iter().any(|drive| self.has_disk(*drive))
-    }
-
-    /// Returns whether a file is written somewhere.
-    pub fn has_place(&self, name: &Name) -> bool
-        ensures { result ≡ is_some (places.place_of self.now name.now) }
-    {
-        self.has_disk(name.drive()) || self.out[name.drive().number() as usize].is_some()
     }
 
     /// Returns the path from which a file that is gone is removed, or `None` if its drive has no disk.

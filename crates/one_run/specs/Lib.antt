@@ -1,2 +1,3 @@
-pub mod Planned
+pub mod ChangedList
 pub mod RunTexts
+pub use Rattle.tracing.specs.Trace

@@ -1,14 +1,20 @@
-//! One run of a session, without edits: its console text, what is to be done with its changed files, and its stop.
+//! One run of a session, without edits: its texts, what is to be done with its changed files, and its stop.
 //!
-//! - `running`: the run, whose console text is written while it runs
-//! - `planning`: what is to be done with its changed files
+//! - `running`: the run, whose console text and trace are written while it runs
+//! - `changed`: the list of its changed files
+//! - `planning`: what is to be done with the files of the list
 //! - `reporting`: its stop, and what became of the files
+//!
+//! What callers name of `tracing` is re-exported.
 #![tactic(auto)]
 
+mod changed;
 mod planning;
 mod reporting;
 mod running;
 
-pub use planning::{Changes, Turn};
-pub use reporting::{report_stop, stop_status};
-pub use running::run_to_end;
+pub use changed::{Entry, changed_entries, first_unplaced, is_any_on_disk};
+pub use planning::{Turn, plan_turn};
+pub use reporting::{Disks, report_stop, stop_status};
+pub use running::{RunFault, Start, run_to_end};
+pub use tracing::{each_call, no_step};

@@ -1,18 +1,26 @@
 // How a run ended, and what became of its files.
 
-ghost use Rattle.std.specs.Prelude.{◌≡◌};
-ghost use Rattle.hostfiles.specs.Files.{files};
-ghost use Rattle.hostfiles.specs.FileView.{is_view_there};
+ghost use Rattle.std.specs.Prelude.{◌≡◌, map};
 ghost use Rattle.streams.specs.Pushing.{more};
 ghost use Rattle.streams.specs.Streams.{WritesOrFails};
-ghost use Rattle.one_run.specs.RunTexts.{stop_lines, stop_status, unplaced_line, unplaced_lines};
+ghost use Rattle.one_run.specs.ChangedList as list;
+ghost use Rattle.one_run.specs.RunTexts.{stop_status};
 
-use crate::planning::Changes;
-use folders::Places;
-use hostfiles::{ChangedFile, Name, next_changed};
+use crate::changed::{Entry, is_any_on_disk};
 use machine::Cause;
-use report_lines::{FileFilter, push_changed_files, push_named, stop_line};
+use report_lines::{push_named, stop_line};
 use streams::{Text, TextOver, Writer};
+
+/// What became of the disks of a run.
+#[derive(Clone, Copy, Debug, PartialEq, Eq)]
+pub enum Disks {
+    /// The run has no disks.
+    Absent,
+    /// They are as they were before the run.
+    Unchanged,
+    /// They have what the run changed.
+    Changed,
+}
 
 /// Returns the exit status for a run that stopped by this cause.
 pub fn stop_status(cause: Cause) -> u8
@@ -31,56 +39,82 @@ pub fn stop_status(cause: Cause) -> u8
     }
 }
 
-// Appends the line of a changed file that is there and has no place.
-fn push_if_unplaced<X: Text>(text: &mut X, places: &Places<'_>, changed: &ChangedFile<'_>)
-    ensures { X.pushed text.new ≡ more (X.pushed text.old)
-        (unplaced_line places.now (is_view_there changed.now.file) changed.now.name) }
+// Returns whether a changed file is gone. On an unchanged disk it is still there.
+fn is_gone(disks: Disks, entry: &Entry<'_>) -> bool
+    ensures { result ≡ list.is_gone disks (list.changed_by entry.now) }
 {
-    if changed.file.is_there() && !places.has_place(&changed.name) {
-        push_named(text, b"not written ", &changed.name);
+    match disks {
+        Disks::Unchanged => !entry.is_there() && !entry.is_on_disk(),
+        _ => !entry.is_there(),
+    }
+}
+
+// Appends the line of a changed file that is gone.
+fn push_if_gone<X: Text>(text: &mut X, disks: Disks, entry: &Entry<'_>)
+    ensures { X.pushed text.new ≡ more (X.pushed text.old)
+        (list.gone_line disks (list.changed_by entry.now)) }
+{
+    if is_gone(disks, entry) {
+        push_named(text, b"gone ", &entry.name);
         text.push(b"\n");
     }
 }
 
-// Appends the lines of the changed files that are there and have no place.
-fn push_unplaced<X: Text>(text: &mut X, changes: &Changes<'_>)
-    ensures { X.pushed text.new ≡ more (X.pushed text.old) (unplaced_lines changes.now.places
-        changes.now.host.now (files changes.now.host.now changes.now.journal.now.entries)) }
+// Appends the line of a changed file that is there and has no place.
+fn push_if_unplaced<X: Text>(text: &mut X, entry: &Entry<'_>)
+    ensures { X.pushed text.new ≡ more (X.pushed text.old)
+        (list.unplaced_line (list.changed_by entry.now)) }
 {
-    let mut after: Option<Name> = None;
-    while let Some(changed) = next_changed(changes.host, changes.journal, after.as_ref()) {
-        push_if_unplaced(text, &changes.places, &changed);
-        after = Some(changed.name);
+    if entry.is_unplaced() {
+        push_named(text, b"not written ", &entry.name);
+        text.push(b"\n");
     }
 }
 
-// Appends the line of the stop of a run, a line if something was to be done on a disk and the disks were left as they were, the lines of the
-// changed files that are gone, and, if there are disks, of the ones that were not written.
-fn push_stop<X: Text>(text: &mut X, cause: Cause, changes: &Changes<'_>, changes_disks: bool)
+// Appends the lines of the changed files that are gone.
+fn push_gone<X: Text>(text: &mut X, disks: Disks, entries: &[Entry<'_>])
     ensures { X.pushed text.new ≡ more (X.pushed text.old)
-        (stop_lines changes.now.places changes_disks cause changes.now.host.now
-        (files changes.now.host.now changes.now.journal.now.entries)) }
+        (list.gone_lines disks (map list.changed_by entries.now)) }
+{
+    for entry in entries {
+        push_if_gone(text, disks, entry);
+    }
+}
+
+// Appends the lines of the changed files that are there and have no place.
+fn push_unplaced<X: Text>(text: &mut X, entries: &[Entry<'_>])
+    ensures { X.pushed text.new ≡ more (X.pushed text.old)
+        (list.unplaced_lines (map list.changed_by entries.now)) }
+{
+    for entry in entries {
+        push_if_unplaced(text, entry);
+    }
+}
+
+// Appends the line of the stop of a run, a line if a changed file is on an unchanged disk, the lines of the changed files that are gone, and,
+// if there are disks, of the ones that were not written.
+fn push_stop<X: Text>(text: &mut X, cause: Cause, disks: Disks, entries: &[Entry<'_>])
+    ensures { X.pushed text.new ≡ more (X.pushed text.old)
+        (list.stop_lines disks cause (map list.changed_by entries.now)) }
 {
     text.push(stop_line(cause).as_bytes());
-    if !changes_disks && changes.changes_disk() {
+    if matches!(disks, Disks::Unchanged) && is_any_on_disk(entries) {
         text.push(b"disk unchanged\n");
     }
-    push_changed_files(text, FileFilter::GoneOnly, changes.host, changes.journal);
-    if changes.places.has_disks() {
-        push_unplaced(text, changes);
+    push_gone(text, disks, entries);
+    if !matches!(disks, Disks::Absent) {
+        push_unplaced(text, entries);
     }
 }
 
-/// Reports on standard error why a run stopped, whether the disks were left as they were, which of the changed files are gone, and which
-/// were not written. The changes have the places of the disks also if these were left as they were. A failure of the writer ends this, and is
-/// ignored.
-pub fn report_stop<E: Writer>(cause: Cause, changes: &Changes<'_>, changes_disks: bool, err: &mut E)
+/// Reports on standard error why a run stopped, whether the disks are unchanged, which of the changed files are gone, and which were not
+/// written. A failure of the writer ends this, and is ignored.
+pub fn report_stop<E: Writer>(cause: Cause, disks: Disks, entries: &[Entry<'_>], err: &mut E)
     ensures { WritesOrFails (E.output err.old) (E.output err.new)
-        (stop_lines changes.now.places changes_disks cause changes.now.host.now
-        (files changes.now.host.now changes.now.journal.now.entries)) }
+        (list.stop_lines disks cause (map list.changed_by entries.now)) }
 {
     let mut text = TextOver::new(err);
-    push_stop(&mut text, cause, changes, changes_disks);
+    push_stop(&mut text, cause, disks, entries);
     text.flush();
     let _ = text.finish();
 }

@@ -7,5 +7,6 @@ mod request;
 
 pub use faults::{Fault, Tool, report_fault};
 pub use request::{
-    Request, clash_fault, print_information, program_words, request_of_error, taken_fault,
+    Request, called_tool, clash_fault, print_information, program_words, request_of_error,
+    taken_fault,
 };

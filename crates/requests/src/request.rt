@@ -26,6 +26,15 @@ pub fn program_words<'a, R: Alloc<A = Global> + Env>(rt: &R) -> Result<Vec<Strin
     }
 }
 
+/// Returns the program by whose name this process was called.
+pub fn called_tool<R: Env>(rt: &R) -> Tool {
+    let mut path = [0; 4096];
+    match rt.arg(0, &mut path) {
+        Ok(length) => Tool::called_by(&path[..length]),
+        Err(_) => Tool::Cpmrun,
+    }
+}
+
 /// The request in words that are no usage error.
 #[derive(Drop)]
 pub enum Request<W> {

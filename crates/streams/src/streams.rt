@@ -55,6 +55,25 @@ pub trait Writer {
     fn hide_steps(&mut self)
         ensures { output self.new ≡ output self.old }
     {}
+
+    /// Returns whether a terminal may show what is written here. Then the steps of the run are not shown among it.
+    fn may_be_terminal(&self) -> bool {
+        false
+    }
+}
+
+/// A writer that takes everything and keeps nothing.
+#[derive(Drop)]
+pub struct Nowhere;
+
+impl Writer for Nowhere {
+    ghost use Rattle.std.specs.Prelude.{None};
+
+    ghost output = { λ _. record { holds = None; failures = 0 } };
+
+    fn write(&mut self, piece: &[u8]) -> Result<usize, Failed> {
+        Ok(piece.len())
+    }
 }
 
 /// A reader or writer of the standard library with a count of its failures. A write that takes no byte of a piece that is not empty is a

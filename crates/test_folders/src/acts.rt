@@ -2,7 +2,7 @@
 
 use crate::listed::{Telling, told};
 use crate::planned::{Manner, Part, did};
-use crate::written::{How, has_a_hole, holds, lacks, place, wrote};
+use crate::written::{How, has_a_hole, holds, lacks, place, wrote, wrote_pieces};
 use std::alloc::{AllocError, Global};
 use std::os::unix::fs::symlink;
 use std::test::Fail;
@@ -30,6 +30,8 @@ pub enum Act<'a> {
     HasBoth(&'a str),
     /// The text after the file of this name, which a run made, is written.
     Writes(&'a str, &'a str, How, Text<'a>),
+    /// The text after these pieces are written to what is at the path, one after another.
+    Streams(&'a str, &'a [&'a [u8]], Text<'a>),
     /// The path at which the file of this name is written if the folder is the disk of its drive, or the text of the error.
     Place(&'a str, &'a str, Text<'a>),
     /// The text after the deeds of one plan. Their paths are in the folder of the test.
@@ -46,7 +48,7 @@ pub enum Act<'a> {
 
 use Act::{
     Does, DoesEach, HasAHole, HasBoth, Holds, Lacks, Link, MakeFolder, Place, Put, PutMany,
-    PutSparse, RemoveFolder, Tells, TellsBoth, Writes,
+    PutSparse, RemoveFolder, Streams, Tells, TellsBoth, Writes,
 };
 
 /// The expected text.
@@ -129,7 +131,7 @@ fn place_of(act: Act<'_>) -> &str {
         MakeFolder(place) | RemoveFolder(place) | Link(place, _) => place,
         Tells(place, _, _) | TellsBoth(place, _, _) | HasBoth(place) => place,
         Writes(place, _, _, _) | HasAHole(place) | Holds(place, _) | Lacks(place) => place,
-        Place(place, _, _) => place,
+        Place(place, _, _) | Streams(place, _, _) => place,
         Does(_, _) | DoesEach(_, _) => "",
     }
 }
@@ -172,6 +174,10 @@ fn answers(rt: &HostRuntime, folder: &str, path: &str, act: Act<'_>) -> Result<b
         TellsBoth(_, place, text) => tells_both(rt, folder, path, place, text),
         HasBoth(_) => has_both(rt, path),
         Writes(_, name, how, text) => writes(rt, folder, path, name, how, text),
+        Streams(_, pieces, text) => {
+            let found = wrote_pieces(rt, path, pieces)?;
+            Ok(is_text(found.as_str(), folder, text))
+        }
         Place(_, name, text) => {
             let found = place(rt, path, name)?;
             Ok(is_text(found.as_str(), folder, text))

@@ -1,8 +1,8 @@
 // Files that are written into a folder.
 
 use crate::acts::Act::{
-    Does, DoesEach, HasAHole, Holds, Lacks, Link, MakeFolder, Place, Put, RemoveFolder, Tells,
-    Writes,
+    Does, DoesEach, HasAHole, Holds, Lacks, Link, MakeFolder, Place, Put, RemoveFolder, Streams,
+    Tells, Writes,
 };
 use crate::acts::Text::{Around, Is};
 use crate::acts::{Case, play};
@@ -209,6 +209,31 @@ const CASES: &[Case<'_>] = &[
                 &[Removes("y", Any)],
                 Around("cannot write ", "/y: it is no regular file"),
             ),
+        ],
+    },
+    Case {
+        name: "a file is written piece by piece",
+        acts: &[
+            Streams("new", &[b"one ", b"", b"two"], Is("")),
+            Holds("new", b"one two"),
+            Streams("new", &[b"1"], Is("")),
+            Holds("new", b"1"),
+            Link("link", "new"),
+            Streams("link", &[b"by the ", b"link"], Is("")),
+            Holds("new", b"by the link"),
+            Streams("new", &[], Is("")),
+            Holds("new", b""),
+        ],
+    },
+    Case {
+        name: "a file that cannot be written piece by piece is reported",
+        acts: &[
+            Streams("none/x", &[b"x"], Around("cannot write ", "/none/x")),
+            MakeFolder("folder"),
+            Streams("folder", &[b"x"], Around("cannot write ", "/folder")),
+            Link("full", "/dev/full"),
+            Streams("full", &[], Is("")),
+            Streams("full", &[b"x", b"y"], Around("cannot write ", "/full")),
         ],
     },
 ];

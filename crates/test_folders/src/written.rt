@@ -5,14 +5,15 @@ use crate::planned::text_of;
 use filenames::{Drive, Name};
 use folders::{
     DriveFolder, Failure, FileSystem, Listing, Places, SystemFiles, Written, name_in_folder,
-    read_folders,
+    read_folders, write_failure,
 };
 use hostfiles::{FileView, Gap, HostFiles, Journal};
 use plan::{Before, Plan, carry_out_each};
 use std::alloc::{AllocError, Global};
-use std::fs;
 use std::io::ErrorKind;
 use std::test::Fail;
+use std::{fs, io};
+use streams::write_all;
 
 /// The contents that are written, and the place.
 #[derive(Clone, Copy)]
@@ -95,6 +96,27 @@ fn write_at_place<S: FileSystem>(
         Ok(None) => Ok(()),
         Err(_) => Err(Failure::OutOfMemory),
     }
+}
+
+/// Writes pieces to what is at a path, one after another, and returns the text for the error, empty if there is none.
+pub fn wrote_pieces(rt: &HostRuntime, path: &str, pieces: &[&[u8]]) -> Result<String, Fail> {
+    let named = String::from_str(rt.alloc(), path)?;
+    let answer = match write_pieces(&mut SystemFiles::new(rt), path, pieces) {
+        Ok(()) => Ok(()),
+        Err(error) => Err(write_failure(error, named)),
+    };
+    Ok(text_of(rt.alloc(), answer)?)
+}
+
+// Stops at the first piece that is not written.
+fn write_pieces<S: FileSystem>(system: &mut S, path: &str, pieces: &[&[u8]]) -> io::Result<()> {
+    let mut output = system.create(path)?;
+    for piece in pieces {
+        if write_all(&mut output, piece).is_err() {
+            break;
+        }
+    }
+    system.close(path, output)
 }
 
 /// Returns the path of a file in a folder that is the disk of its drive, or the text for the error.

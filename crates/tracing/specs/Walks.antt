@@ -1,10 +1,12 @@
 -- A walk along a run, and the lines that it pushes. (This project's own.)
-use Rattle.std.specs.Prelude.{◌≡◌, ℕ, zero, suc, ◌-◌, ◌<◌, ◌≤◌, List, [], ◌++◌, length, drop, Option, Some, None, Result, Ok, Err}
+use Rattle.std.specs.Prelude.{◌≡◌, false, ℕ, zero, suc, ◌-◌, ◌<◌, ◌≤◌, List, [], ◌++◌, length, drop, Option, Some, None, Result, Ok, Err}
 use Rattle.std.specs.List.{concat}
 use Rattle.console_calls.specs.declared.cause.Cause.{Cause}
 use Rattle.machine.specs.Inputs.{Session}
-use Rattle.machine.specs.PlainState.{plain_run}
-use Rattle.machine.specs.Runs.{RunView, StopsHere}
+use Rattle.machine.specs.PlainLaid.{plain_after}
+use Rattle.machine.specs.PlainState.{PlainState, plain_run}
+use Rattle.machine.specs.Runs.{EndsBy, RunView, StopsHere}
+use Rattle.trace_filters.specs.Chosen.{has_line}
 use Rattle.report_lines.specs.FirstLines.{stop_line}
 use Rattle.streams.specs.Pushing.{Pushed, PushesPart, more}
 use Rattle.tracing.specs.Trace.{all_lines, lines}
@@ -59,3 +61,12 @@ IsWithin r end (Some cause) = (r.step < r.session.limit) × StopsHere r cause
 abbrev pub EndsAt : RunView → ℕ → Option Cause → Type 0
 EndsAt r end None = r.step ≡ end
 EndsAt r end (Some cause) = (r.step < r.session.limit) × StopsHere r cause
+
+-- No step of a session from `from` on and below `upto` has a line.
+abbrev pub HasNoLine : Choice → Session → ℕ → ℕ → Type 0
+HasNoLine c s from upto = (i : ℕ) (w : PlainState) → from ≤ i → i < upto → plain_after s i ≡ Some w → has_line c s i w ≡ false
+
+-- A run is at its limit, or where a stop follows, by either account of its steps.
+pub record IsEnd (r : RunView) (stop : Option Cause) : Type 0 where
+  pub at : EndsAt r r.session.limit stop
+  pub by : EndsBy r r.session.limit stop

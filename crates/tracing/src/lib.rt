@@ -7,5 +7,5 @@
 mod trace;
 mod walk;
 
-pub use trace::{call_trace, write_trace};
+pub use trace::{each_call, no_step, push_both, write_trace};
 pub use trace_filters::{CellRange, Choice};

@@ -1,34 +1,21 @@
 // The whole trace.
 
-ghost use Rattle.std.specs.Prelude.{◌≡◌, ◌-◌, IfErr, IfOk, OnOk, drop, length};
+ghost use Rattle.std.specs.Prelude.{◌≡◌, ◌-◌, ◌||◌, IfErr, IfOk, OnOk, Some, drop, false, length};
+ghost use Rattle.machine.specs.Runs.{EndsBy, asked_by};
 ghost use Rattle.machine.specs.PlainState.{plain_run};
 ghost use Rattle.streams.specs.Pushing.{PushesUnless};
 ghost use Rattle.streams.specs.Streams.{WritesWhole};
 ghost use Rattle.faults.specs.Faults.{BreaksText};
-ghost use Rattle.tracing.specs.Trace.{all_lines, each_call, last_lines, trace_text};
+ghost use Rattle.tracing.specs.Trace.{all_lines, console_text, each_call, last_lines, no_step, trace_text};
 ghost use Rattle.tracing.specs.Walks.{EndsAt, text_after};
 
-use crate::walk::{Walker, walk};
+use crate::walk::{Walker, has_either_failed, walk};
 use faults::Fault;
 use machine::{Cause, Noting, Run, Session};
 use report_lines::stop_line;
 use std::alloc::{AllocError, Global};
-use streams::{Failed, Over, Text, TextOver, Writer};
+use streams::{Nowhere, Text, TextOver, Writer};
 use trace_filters::Choice;
-
-// A writer that takes everything and keeps nothing.
-#[derive(Drop)]
-struct Nowhere;
-
-impl Writer for Nowhere {
-    ghost use Rattle.std.specs.Prelude.{None};
-
-    ghost output = { λ _. record { holds = None; failures = 0 } };
-
-    fn write(&mut self, piece: &[u8]) -> Result<usize, Failed> {
-        Ok(piece.len())
-    }
-}
 
 // Returns why a run ended that is at its limit, or where a stop follows.
 fn cause_of(run: &Run<'_>, stop: Option<Cause>) -> Cause
@@ -51,7 +38,10 @@ fn lines_before_last(run: &mut Run<'_>, choice: &Choice, last: u64) -> Result<u6
     let mut text = TextOver::new(&mut nowhere);
     let limit = run.session().limit();
     let mut walker = Walker::new(limit);
-    walk(run, choice, &mut walker, &mut text)?;
+    let mut nowhere = Nowhere;
+    let mut console = TextOver::new(&mut nowhere);
+    let mut err = Nowhere;
+    walk(run, choice, &mut walker, &mut console, &mut text, &mut err)?;
     let count = limit.saturating_sub(walker.skip);
     Ok(count.saturating_sub(last))
 }
@@ -68,24 +58,35 @@ fn lines_to_skip(alloc: Global, session: &Session, choice: &Choice) -> Result<u6
     lines_before_last(&mut run, choice, last)
 }
 
-// Pushes the lines of a run that starts, without the first `skip` ones, and then the line of its stop. If sending fails, it ends early.
-fn push_rest<X: Text>(
+/// Runs a run that starts to its end. Pushes and sends its console text to one text, and to another its lines without the first `skip` ones,
+/// and then the line of its stop. If sending either fails, it ends early.
+pub fn push_both<X: Text, Y: Text, E: Writer>(
     run: &mut Run<'_>,
     choice: &Choice,
     skip: u64,
-    text: &mut X,
-) -> Result<(), AllocError>
+    console: &mut X,
+    lines: &mut Y,
+    err: &mut E,
+) -> Result<Option<Cause>, AllocError>
     requires { run.old.step ≡ 0 }
-    ensures { PushesUnless (X.failed text.new) (X.pushed text.old) (X.pushed text.new)
-        (text_after choice.now run.old.session skip) result }
+    ensures session { run.new.session ≡ run.old.session }
+    ensures ends { X.failed console.new ≡ false → Y.failed lines.new ≡ false
+        → IfOk result (λ stop. EndsBy run.new run.new.session.limit stop) }
+    ensures noted { run.old.seen ≡ Some run.old.step
+        → IfOk result (λ stop. run.new.seen ≡ Some (asked_by run.new.step stop)) }
+    ensures console { PushesUnless (X.failed console.new || Y.failed lines.new)
+        (X.pushed console.old) (X.pushed console.new) (console_text run.old.session) result }
+    ensures lines { PushesUnless (X.failed console.new || Y.failed lines.new)
+        (Y.pushed lines.old) (Y.pushed lines.new) (text_after choice.now run.old.session skip) result }
+    ensures err { E.output err.new ≡ E.output err.old }
 {
     let mut walker = Walker::new(skip);
-    let stop = walk(run, choice, &mut walker, text)?;
-    if text.has_failed() {
-        return Ok(());
+    let stop = walk(run, choice, &mut walker, console, lines, err)?;
+    if has_either_failed(console, lines) {
+        return Ok(stop);
     }
-    text.push(stop_line(cause_of(run, stop)).as_bytes());
-    Ok(())
+    lines.push(stop_line(cause_of(run, stop)).as_bytes());
+    Ok(stop)
 }
 
 // Pushes the lines of the chosen steps of a session, in order, and then the line of its stop. If sending fails, it ends early.
@@ -100,7 +101,11 @@ fn push_trace<X: Text>(
 {
     let skip = lines_to_skip(alloc, session, choice)?;
     let mut run = Run::start(alloc, session, Noting::Nothing)?;
-    push_rest(&mut run, choice, skip, text)
+    let mut nowhere = Nowhere;
+    let mut console = TextOver::new(&mut nowhere);
+    let mut err = Nowhere;
+    push_both(&mut run, choice, skip, &mut console, text, &mut err)?;
+    Ok(())
 }
 
 /// Writes the lines of the chosen steps of a session, in order, and then the line of its stop. The lines are sent at the latest after each
@@ -128,15 +133,11 @@ pub fn write_trace<'a, W: Writer>(
     Ok(())
 }
 
-/// Returns the lines of the calls of a session, in order, and then the line of its stop.
-///
-/// # Errors
-///
-/// Returns `Err` if an allocation fails.
-pub fn call_trace(alloc: Global, session: &Session) -> Result<Vec<u8>, AllocError>
-    ensures { IfOk result (λ text. text.items ≡ trace_text each_call session.now) }
+/// Returns the choice of each call.
+pub fn each_call() -> Choice
+    ensures { result ≡ each_call }
 {
-    let each_call = Choice {
+    Choice {
         instructions: false,
         from: 0,
         to: u64::MAX,
@@ -145,10 +146,15 @@ pub fn call_trace(alloc: Global, session: &Session) -> Result<Vec<u8>, AllocErro
         reads: None,
         file: None,
         last: None,
-    };
-    let mut text = Over::new(Vec::new(alloc));
-    match write_trace(alloc, session, &each_call, &mut text) {
-        Ok(()) => Ok(text.into_inner()),
-        Err(_) => Err(AllocError),
+    }
+}
+
+/// Returns a choice that no step below the limit passes: the trace has only the line of the stop.
+pub fn no_step() -> Choice
+    ensures { result ≡ no_step }
+{
+    Choice {
+        from: u64::MAX,
+        ..each_call()
     }
 }

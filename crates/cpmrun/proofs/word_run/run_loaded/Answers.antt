@@ -1,56 +1,113 @@
-use Rattle.std.proofs.Common.{◌∙◌, ap, inl, inr, refl}
+use Rattle.std.proofs.Common.{◌++◌, ◌∙◌, List, ap, inl, inr, map, refl}
+use Rattle.std.specs.List.{list_all}
 use Rattle.std.proofs.lemmas.Result.{err_from_is_err_and}
-use Rattle.dependencies.proofs.DecideLemmas.{are_dependencies}
+use Rattle.faults.specs.Faults.{file_paths}
 use Rattle.folders.proofs.FilesLemmas.{same_files}
+use Rattle.folders.specs.FileSystem.{StoredFiles}
 use Rattle.folders.specs.declared.places.Places.{Places}
+use Rattle.hostfiles.specs.Files.{files}
+use Rattle.machine.specs.Inputs.{Session}
+use Rattle.machine.specs.PlainState.{plain_run}
+use Rattle.make_rules.specs.Carried.{is_carried}
+use Rattle.one_run.specs.ChangedList.{Changed, changed_by}
 use Rattle.one_run.specs.RunTexts.{stop_status}
 use Rattle.requests.specs.World.{world}
+use Rattle.cpmrun.specs.Reports.{put_paths}
+use Rattle.cpmrun.specs.RunEnds.{ArePlaces, disks_after, puts}
+use Rattle.cpmrun.proofs.Carrying.{list_of}
+use Rattle.cpmrun.proofs.Targets.{puts_carried}
 use Rattle.cpmrun.proofs.word_run.run_loaded.Goals as goal
 
-pub finish-requires-clause-run : goal.finish-requires-clause-run
-finish-requires-clause-run g c =
-    let whole = c.in-Ok.run' in
-    λ some. rw c.in-Ok.ensures.session
-    (are_dependencies c.args.loaded.now.session whole.looks whole.state.state whole.steps whole.cause c.in-Ok.ensures.cold
-    (c.in-Ok.ensures.looks (c.noting_of-noting.ensures some)))
-
-pub returns-in_err-finish-clause-fault : goal.returns-in_err-finish-clause-fault
-returns-in_err-finish-clause-fault g c =
-    let left = err_from_is_err_and c.from_residual-in_err-finish.result c.from_residual-in_err-finish.ensures.1 in
+pub returns-in_err-entries-clause-fault : goal.returns-in_err-entries-clause-fault
+returns-in_err-entries-clause-fault g c =
+    let w = c.args.words.now in
+    let s = c.args.loaded.now.session in
+    let l = c.args.loaded.now.listings in
     let same = same_files c.in_ok-check_reports.ensures.unchanged in
-    let places : Places = record { out = c.args.words.now.out; disks = c.with_names.result } in
+    let places : Places = record { out = w.out; disks = c.with_names.result } in
+    let are : ArePlaces w l places = record { out = refl; disks = c.with_names.ensures } in
+    let left = err_from_is_err_and c.from_residual-in_err-entries.result c.from_residual-in_err-entries.ensures.1 in
     rw (left.1, left.2) (λ old new. inr (inr (
-      world (g.S.FileSystem.files c.args.system.now) (g.O.Writer.output c.run_to_end.new.out) old,
-      (c.in-Ok.ensures.text, refl, refl),
-      (
-        places,
-        (record { out = refl; disks = c.with_names.ensures }),
-        inl (
-          (rw (same, c.at.ensures.places, c.changes_disks-changed.ensures, c.cause.ensures, c.in-Ok.ensures.session) at c.in_err-finish.ensures.fault),
-          refl,
-        ),
-      ),
+      world (g.S.FileSystem.files c.run_streams.new.system) (g.O.Writer.output c.run_streams.new.out) old,
+      (c.in_ok-run.ensures.done, (rw same at c.in_ok-run.ensures.trace), refl),
+      (places, are, inl (inl (inr (inr tt), refl), refl)),
     )))
+
+pub change-requires-clause-carried : goal.change-requires-clause-carried
+change-requires-clause-carried g c =
+    let w = c.args.words.now in
+    let s = c.args.loaded.now.session in
+    let l = c.args.loaded.now.listings in
+    let places : Places = record { out = w.out; disks = c.with_names.result } in
+    let are : ArePlaces w l places = record { out = refl; disks = c.with_names.ensures } in
+    let session = c.in_ok-run.ensures.session in
+    let host = c.files.ensures ∙ ap (λ (x : Session). x.files) session in
+    let own = ap (λ h. files h c.journal.result.now.entries) c.files.ensures ∙ c.journal.ensures ∙ ap (λ (x : Session). (plain_run x).state.files) session in
+    let list = c.in_ok-entries.ensures ∙ list_of places s host own in
+    let cs = ap (map changed_by) c.as_slice.ensures.value ∙ list in
+    λ some. ap (λ (cs : List Changed). list_all is_carried (put_paths (puts c.disks_after-disks.result cs))) cs
+    ∙ puts_carried w l places s.files (plain_run s).state.files c.disks_after-disks.result are c.requires some
+
+pub returns-in_err-change-clause-fault : goal.returns-in_err-change-clause-fault
+returns-in_err-change-clause-fault g c =
+    let w = c.args.words.now in
+    let s = c.args.loaded.now.session in
+    let l = c.args.loaded.now.listings in
+    let same = same_files c.in_ok-check_reports.ensures.unchanged in
+    let places : Places = record { out = w.out; disks = c.with_names.result } in
+    let are : ArePlaces w l places = record { out = refl; disks = c.with_names.ensures } in
+    let session = c.in_ok-run.ensures.session in
+    let host = c.files.ensures ∙ ap (λ (x : Session). x.files) session in
+    let own = ap (λ h. files h c.journal.result.now.entries) c.files.ensures ∙ c.journal.ensures ∙ ap (λ (x : Session). (plain_run x).state.files) session in
+    let list = c.in_ok-entries.ensures ∙ list_of places s host own in
+    let disks = c.disks_after-disks.ensures ∙ ap (disks_after w) (c.cause.ensures ∙ ap (λ (x : Session). (plain_run x).cause) session) in
+    let cs = ap (map changed_by) c.as_slice.ensures.value ∙ list in
+    let left = err_from_is_err_and c.from_residual-in_err-change.result c.from_residual-in_err-change.ensures.1 in
+    rw (left.1, left.2) (λ old new. inr (inr (
+      world (g.S.FileSystem.files c.run_streams.new.system) (g.O.Writer.output c.run_streams.new.out) old,
+      (c.in_ok-run.ensures.done, (rw same at c.in_ok-run.ensures.trace), refl),
+      (places, are, inl ((rw (session, disks, cs) at c.in_err-change.ensures.fault), refl)),
+    )))
+
+pub returns-in_err-change-clause-unreported : goal.returns-in_err-change-clause-unreported
+returns-in_err-change-clause-unreported g c =
+    let left = err_from_is_err_and c.from_residual-in_err-change.result c.from_residual-in_err-change.ensures.1 in
+    rw left.1 c.in_ok-run.ensures.err
+
+pub returns-in_err-change-clause-failed : goal.returns-in_err-change-clause-failed
+returns-in_err-change-clause-failed g c =
+    let same = same_files c.in_ok-check_reports.ensures.unchanged in
+    let left = err_from_is_err_and c.from_residual-in_err-change.result c.from_residual-in_err-change.ensures.1 in
+    rw (left.1, left.2) (c.in_err-change.ensures.failed
+    ∙ ap (λ t. file_paths c.in_err-change.field-0.0 ++ t) (c.in_ok-run.ensures.failed ∙ ap (λ (f : StoredFiles). f.failed) same))
 
 pub returns-clause-done : goal.returns-clause-done
 returns-clause-done g c =
+    let w = c.args.words.now in
+    let s = c.args.loaded.now.session in
+    let l = c.args.loaded.now.listings in
     let same = same_files c.in_ok-check_reports.ensures.unchanged in
-    let places : Places = record { out = c.args.words.now.out; disks = c.with_names.result } in (
-      (c.stop_status.ensures ∙ ap stop_status (rw c.in-Ok.ensures.session at c.cause-3.ensures)),
+    let places : Places = record { out = w.out; disks = c.with_names.result } in
+    let are : ArePlaces w l places = record { out = refl; disks = c.with_names.ensures } in
+    let session = c.in_ok-run.ensures.session in
+    let host = c.files.ensures ∙ ap (λ (x : Session). x.files) session in
+    let own = ap (λ h. files h c.journal.result.now.entries) c.files.ensures ∙ c.journal.ensures ∙ ap (λ (x : Session). (plain_run x).state.files) session in
+    let list = c.in_ok-entries.ensures ∙ list_of places s host own in
+    let disks = c.disks_after-disks.ensures ∙ ap (disks_after w) (c.cause.ensures ∙ ap (λ (x : Session). (plain_run x).cause) session) in
+    let cs = ap (map changed_by) c.as_slice.ensures.value ∙ list in
+    let why = ap (λ (x : Session). (plain_run x).cause) session in
+    let reported = ap (map changed_by) c.as_slice-2.ensures.value ∙ list in (
+      (c.stop_status.ensures ∙ ap stop_status (c.cause-3.ensures ∙ why)),
       (
-        world (g.S.FileSystem.files c.args.system.now) (g.O.Writer.output c.run_to_end.new.out) (g.E.Writer.output c.args.err.now),
-        (c.in-Ok.ensures.text, refl, refl),
+        world (g.S.FileSystem.files c.run_streams.new.system) (g.O.Writer.output c.run_streams.new.out) (g.E.Writer.output c.args.err.now),
+        (c.in_ok-run.ensures.done, (rw same at c.in_ok-run.ensures.trace), refl),
         (
           places,
-          (record { out = refl; disks = c.with_names.ensures }),
+          are,
           (
-            world (g.S.FileSystem.files c.finish.new.system) (g.O.Writer.output c.run_to_end.new.out) (g.E.Writer.output c.args.err.now),
-            ((rw (same, c.at.ensures.places, c.changes_disks-changed.ensures, c.cause.ensures, c.in-Ok.ensures.session) at c.in_ok-finish.ensures.done), refl, refl),
-            (
-              (rw (c.files.ensures, c.journal.ensures, c.changes_disks-changed.ensures, c.cause.ensures, c.cause-2.ensures, c.in-Ok.ensures.session, c.in-Ok.ensures.err) at c.report_stop.ensures),
-              refl,
-              refl,
-            ),
+            world (g.S.FileSystem.files c.change.new.system) (g.O.Writer.output c.run_streams.new.out) (g.E.Writer.output c.args.err.now),
+            ((rw (session, disks, cs) at c.in_ok-change.ensures.done), refl, refl),
+            ((rw (c.in_ok-run.ensures.err, disks, (c.cause-2.ensures ∙ why), reported) at c.report_stop.ensures), refl, refl),
           ),
         ),
       ),

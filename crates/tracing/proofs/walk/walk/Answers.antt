@@ -1,25 +1,33 @@
-use Rattle.std.proofs.Common.{◌≡◌, ◌+◌, ◌∙◌, None, ap, arith, false, min, rules, sym}
-use Rattle.machine.specs.Inputs.{Session}
-use Rattle.streams.proofs.Pushes.{no_part}
-use Rattle.tracing.specs.Walks.{lines_left, walked, with_lines}
-use Rattle.tracing.proofs.Walking.{ended, none_left, none_more, sound_before, walk_fails}
+use Rattle.std.proofs.Common.{◌≡◌, ◌<◌, ◌||◌, ◌∙◌, None, false, rules, sym, true}
+use Rattle.streams.proofs.Pushes.{unless_failed, whole_part}
+use Rattle.tracing.specs.Trace.{console_text}
+use Rattle.tracing.proofs.TextPieces.{all_pushed, itself, more_pushed, rest_left}
+use Rattle.tracing.proofs.Walking.{at_end}
 use Rattle.tracing.proofs.walk.walk.Goals as goal
 
-pub returns-in_err-cause-clause-lines : goal.returns-in_err-cause-clause-lines
-returns-in_err-cause-clause-lines g c = walk_fails _ c.args.run.now c.skip_early.new.run _ _ c.from_residual.result c.from_residual.ensures.0 (no_part _ _)
+pub returns-in_err-stop-clause-console : goal.returns-in_err-stop-clause-console
+returns-in_err-stop-clause-console g c =
+    unless_failed c.from_residual.result c.from_residual.ensures.0 (rest_left _ _ (console_text c.args.run.now.session) c.send_if_due-sent.result.bytes
+    ((rw c.loop-run.invariant.session at c.send_if_due-sent.ensures.console) _ c.loop-run.invariant.console))
 
-pub returns-clause-lines : goal.returns-clause-lines
-returns-clause-lines g c =
-    let ch = c.args.choice.now in
-    let r = c.push_lines.new.run in
-    let same : lines_left ch c.args.run.now None ≡ lines_left ch c.skip_early.new.run None = rw c.in_default.is at c.in_ok-cause.ensures.lines in
-    let sent : g.X.Text.failed c.flush.new.self ≡ false = search rules in
-    let sound = sound_before (g.X.Text.failed c.push_lines.new.text) _ c.flush.ensures.remembers sent in
-    let at = (rw c.in_default-2.is at c.in_ok-cause-2.ensures.ends) sound in
-    let limits : r.session.limit ≡ c.session.result.now.limit = ap (λ (s : Session). s.limit) (c.in_ok-cause-2.ensures.session ∙ c.in_ok-cause.ensures.session ∙ sym c.session.ensures) in
-    let last : c.min-end.result ≡ min r.session.limit (ch.to + 1) = omega (arith, limits, c.min-end.ensures, c.saturating_add.ensures, c.limit-limit.ensures.value, c.limit-limit.ensures.within) in
-    let none = none_left ch r c.min-end.result at last in
-    let lines = ap (λ p. with_lines (walked p c.push_lines.new.walker.skip) (lines_left ch r None)) c.flush.ensures.same ∙ (rw c.in_default-2.is at c.in_ok-cause-2.ensures.lines) ∙ ap (with_lines (walked (g.X.Text.pushed c.args.text.now) c.args.walker.now.skip)) (sym same) in
-    let limit : c.advance.new.self.session.limit ≡ c.limit-limit.result =
-    ap (λ (s : Session). s.limit) c.advance.ensures.goes.session ∙ limits ∙ sym c.limit-limit.ensures.value in
-    none_more ch c.args.run.now r c.advance.new.self _ _ c.advance.result (ended c.advance.new.self c.limit-limit.result c.advance.result limit c.advance.ensures.ends c.advance.ensures.stops) none lines
+pub returns-then-has_either_failed-clause-console : goal.returns-then-has_either_failed-clause-console
+returns-then-has_either_failed-clause-console g c = record {
+  part = rest_left _ _ (console_text c.args.run.now.session) c.loop-run.sent.bytes c.loop-run.invariant.console;
+  whole = λ sound. let no : true ≡ false = sym (sym c.has_either_failed-2.ensures ∙ c.if-has_either_failed.true) ∙ sound in absurd (cc);
+}
+
+pub returns-clause-ends : goal.returns-clause-ends
+returns-clause-ends g c =
+    let over : c.loop-run.stop ≡ None → c.loop-run.run.step < c.loop-run.run.session.limit → ⊥ = search rules in
+    λ x y. at_end c.loop-run.run c.loop-run.stop c.step-2.ensures.session c.step-2.ensures.at c.loop-run.invariant.within over
+
+pub returns-clause-console : goal.returns-clause-console
+returns-clause-console g c =
+    let over : c.loop-run.stop ≡ None → c.loop-run.run.step < c.loop-run.run.session.limit → ⊥ = search rules in
+    let end = at_end c.loop-run.run c.loop-run.stop c.step-2.ensures.session c.step-2.ensures.at c.loop-run.invariant.within over in
+    let whole = console_text c.args.run.now.session in
+    let all = rw c.loop-run.invariant.session at (c.text.ensures.whole c.loop-run.stop end.by) in
+    let pushed = all_pushed _ _ whole c.text.result.now c.loop-run.sent.bytes c.push_more.result all c.push_more.ensures.count
+    (more_pushed whole c.text.result.now c.loop-run.sent.bytes (itself whole c.text.result.now all) _ _ _ c.push_more.result c.push_more.ensures.count
+    c.loop-run.invariant.console c.push_more.ensures.console) in
+    record { part = whole_part pushed; whole = λ sound. pushed }

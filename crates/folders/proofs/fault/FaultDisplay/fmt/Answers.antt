@@ -1,9 +1,9 @@
-use Rattle.std.proofs.Common.{◌∙◌, ◌++◌, ap, sym, codes, string_bytes}
+use Rattle.std.proofs.Common.{◌≡◌, ◌∙◌, ◌+◌, ◌++◌, ◌∷◌, [], ap, sym, codes, string_bytes}
 use Rattle.std.proofs.Output.{has_written_of_eq}
 use Rattle.std.proofs.lemmas.List.{append_assoc}
 use Rattle.std.specs.Fmt.{decimal}
 use Rattle.filenames.specs.Names.{display_text}
-use Rattle.folders.specs.Faults.{text_of}
+use Rattle.folders.specs.Faults.{letter_of, text_of}
 use Rattle.folders.proofs.fault.FaultDisplay.fmt.Goals as goal
 
 pub returns-in-Refused-clause-writes : goal.returns-in-Refused-clause-writes
@@ -17,3 +17,13 @@ returns-in-CannotMove-clause-writes g c =
     let other = string_bytes c.in-CannotMove.other in
     let parts = ap (λ t. codes "cannot write " ++ t) (sym (append_assoc path (codes ": its contents are in ") other)) in
     λ p k. has_written_of_eq _ _ _ _ _ (parts ∙ ap text_of (sym c.in-CannotMove.is)) (c.write-in-CannotMove.ensures.writes p k)
+
+pub returns-in-NoFolder-clause-writes : goal.returns-in-NoFolder-clause-writes
+returns-in-NoFolder-clause-writes g c =
+    let name = c.in-NoFolder.name in
+    let letter : c.letter-letter.result.now ≡ letter_of name = c.letter-letter.ensures ∙ ap (λ drive. (65 + drive) ∷ []) c.drive.ensures in
+    let before = codes ": drive " in
+    let after = codes " has no folder" in
+    let parts = sym (append_assoc (display_text name ++ before) (letter_of name) after ∙ append_assoc (display_text name) before (letter_of name ++ after)) in
+    let text = ap (λ l. display_text name ++ (before ++ (l ++ after))) letter ∙ parts in
+    λ p k. has_written_of_eq _ _ _ _ _ (ap (λ t. codes "cannot write " ++ t) text ∙ ap text_of (sym c.in-NoFolder.is)) (c.write-in-NoFolder.ensures.writes p k)
