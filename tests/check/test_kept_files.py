@@ -59,7 +59,7 @@ class StopTest(DiskTest):
                 whole, partial = (self.work / f'{cause}-{kind}' for kind in ('whole', 'partial'))
                 for folder in whole, partial:
                     shutil.copytree(self.disk, folder)
-                self.expect(status, '', f'stop {cause}\n{UNCHANGED if status else ""}gone OLD\n', program, '--disk', whole)
+                self.expect(status, '', f'stop {cause}\n' + (UNCHANGED if status else 'gone OLD\n'), program, '--disk', whole)
                 self.expect_names(whole, 'a', *(['old'] if status else ['new']))
                 self.expect(status, '', f'stop {cause}\ngone OLD\n', program, '--disk', partial, '--partial')
                 self.expect_names(partial, 'a', 'new')
@@ -71,8 +71,7 @@ class StopTest(DiskTest):
         (self.work / 'out').mkdir()
         words = ['--disk', self.disk, '--out-b', self.work / 'out', '--limit', '1000']
         for line, acts in ('', ['20 SAME']), ('', ['21 SAME']), ('', ['22 X', '19 X']), ('', ['21 B:NEW']), (UNCHANGED, ['22 X']), (UNCHANGED, ['19 SAME']):
-            gone = 'gone SAME\n' if acts == ['19 SAME'] else ''
-            self.expect(3, '', f'stop Limit\n{line}{gone}', self.put('calls.com', calls(*acts, end=SPIN)), *words)
+            self.expect(3, '', f'stop Limit\n{line}', self.put('calls.com', calls(*acts, end=SPIN)), *words)
             self.expect_files(same=RECORD)
         self.put('calls.com', calls('22 B:NEW', '21 B:NEW', '22 X', end=SPIN))
         self.expect(3, '', f'stop Limit\n{UNCHANGED}', self.work / 'calls.com', *words)
