@@ -1,5 +1,5 @@
 -- Cells that were not ready, among the ones that a call writes.
-use Rattle.std.proofs.Common.{◌≡◌, ℕ, suc, zero, ◌+◌, ◌%◌, ◌<◌, ◌==◌, ◌||◌, Bool, true, false, List, [], ◌∷◌, ◌++◌, length, map, refl, sym, ◌∙◌, ap, subst, arith, eq-eqb}
+use Rattle.std.proofs.Common.{◌≡◌, ℕ, suc, zero, ◌<◌, ◌==◌, ◌||◌, Bool, true, false, List, [], ◌∷◌, ◌++◌, length, map, refl, subst, arith, eq-eqb}
 use Rattle.i8080.specs.Memory.{is_among}
 use Rattle.i8080.specs.Performs.{WritesUnready}
 use Rattle.i8080.specs.Registers.{onward}

@@ -1,13 +1,14 @@
-ghost use Rattle.std.specs.Prelude.{◌≡◌, ◌≤◌, List, ℕ, true, false, is_some, Ok, OnErr, length, if◌then◌else◌};
+ghost use Rattle.std.specs.Prelude.{◌≡◌, ◌≤◌, List, ℕ, true, false, Ok, OnErr, length, if◌then◌else◌};
 ghost use Rattle.file_calls.specs.TableView.{table_view};
-ghost use Rattle.i8080.specs.Memory.{bytes};
 ghost use Rattle.i8080.specs.Performs.{Reads};
 ghost use Rattle.bdos.specs.FileCalls.{file_call, delete_call, search_next_call, drive_of_byte};
 ghost use Rattle.bdos.specs.FileCalls.{block_reading};
 ghost use Rattle.bdos.specs.BlockParts.{byte_count};
 ghost use Rattle.file_calls.specs.Findings.{block_length};
 ghost use Rattle.bdos.specs.SystemCalls.{call, system_function};
-ghost use Rattle.bdos.specs.Growth.{IfOfFiles, NeedsMemoryFor, may_grow, names_drive};
+ghost use Rattle.bdos.specs.declared.function.SystemFunction.TheVariants.{OfDesk};
+ghost use Rattle.bdos.specs.Growth.{IfOfFiles, NeedsMemoryFor};
+ghost use Rattle.console_calls.specs.Growth.{may_grow};
 ghost use Rattle.bdos.specs.PerformsSystemCall.{MakesSystemCall};
 ghost use Rattle.i8080.specs.Performs.{KeepsReady};
 ghost use Rattle.console_calls.specs.PerformsCall.{scene};
@@ -43,8 +44,8 @@ pub fn call<B: Bus>(
     ensures makes { (n : ℕ) → length script.now ≤ n → MakesSystemCall (call n) script.now
         (scene regs.old (B.memory bus.old) desk.old) (table_view table.old) result
         (scene regs.new (B.memory bus.new) desk.new) (table_view table.new) }
-    ensures grows { OnErr result (may_grow (system_function regs.old.c) regs.old desk.old.desk.spot
-        (bytes (B.memory bus.old)) script.now ≡ true) }
+    ensures grows { OnErr result (system_function regs.old.c ≡ OfDesk
+        → may_grow regs.old desk.old.desk.spot script.now ≡ true) }
     ensures needs { (n : ℕ) → OnErr result (IfOfFiles (system_function regs.old.c)
         (NeedsMemoryFor (call n) script.now (scene regs.old (B.memory bus.old) desk.old)
         (table_view table.old) (B.is_ready bus.old))) }
@@ -70,8 +71,6 @@ fn file_call<B: Bus>(
     ensures makes { (script : List ℕ) → MakesSystemCall (file_call function) script
         (scene regs.old (B.memory bus.old) desk.old) (table_view table.old) result
         (scene regs.new (B.memory bus.new) desk.new) (table_view table.new) }
-    ensures grows { OnErr result
-        (names_drive regs.old desk.old.desk.spot (bytes (B.memory bus.old)) ≡ true) }
     ensures needs { (script : List ℕ) → OnErr result (NeedsMemoryFor (file_call function) script
         (scene regs.old (B.memory bus.old) desk.old) (table_view table.old) (B.is_ready bus.old)) }
 {
@@ -99,8 +98,6 @@ fn delete_call<B: Bus>(
     ensures makes { (script : List ℕ) → MakesSystemCall delete_call script
         (scene regs.old (B.memory bus.old) desk.now) (table_view table.old) result
         (scene regs.new (B.memory bus.new) desk.now) (table_view table.new) }
-    ensures grows { OnErr result
-        (names_drive regs.old desk.now.desk.spot (bytes (B.memory bus.old)) ≡ true) }
     ensures needs { (script : List ℕ) → OnErr result (NeedsMemoryFor delete_call script
         (scene regs.old (B.memory bus.old) desk.now) (table_view table.old) (B.is_ready bus.old)) }
 {
@@ -134,7 +131,6 @@ fn search_next_call<B: Bus>(
     ensures makes { (script : List ℕ) → MakesSystemCall search_next_call script
         (scene regs.old (B.memory bus.old) desk.old) (table_view table.old) result
         (scene regs.new (B.memory bus.new) desk.new) (table_view table.new) }
-    ensures grows { OnErr result (is_some desk.old.desk.spot.search ≡ true) }
     ensures needs { (script : List ℕ) → OnErr result (NeedsMemoryFor search_next_call script
         (scene regs.old (B.memory bus.old) desk.old) (table_view table.old) (B.is_ready bus.old)) }
 {

@@ -2,7 +2,7 @@
 
 #![tactic(auto, using(crate::proofs::Parts::still_looked_at))]
 
-ghost use Rattle.std.specs.Prelude.{◌≡◌, ◌≢◌, ◌≤◌, ◌/◌, ◌%◌, List, [], ◌∷◌, ◌++◌, ℕ, true, Ok, OnOk, OnErr, length};
+ghost use Rattle.std.specs.Prelude.{◌≡◌, ◌≢◌, ◌≤◌, ◌/◌, ◌%◌, List, [], ◌∷◌, ◌++◌, ℕ, Ok, OnOk, OnErr, length};
 ghost use Rattle.console_calls.specs.ConsoleCalls.{at_caller};
 ghost use Rattle.console_calls.specs.declared.served.Served.TheVariants.{Went};
 ghost use Rattle.file_calls.specs.TableView.{TableView, table_view};
@@ -20,7 +20,7 @@ ghost use Rattle.interaction_trees.specs.Tree.{result_of};
 ghost use Rattle.i8080.specs.Performs.{WritesUnready};
 ghost use Rattle.bdos.specs.FileCalls.{place_cells};
 ghost use Rattle.bdos.specs.SystemQuestions.{SystemAnswers};
-ghost use Rattle.bdos.specs.Growth.{Grows, is_done};
+ghost use Rattle.bdos.specs.Growth.{Grows};
 
 use crate::cells::{fetch_cells, put_cells, put_record, ready_place, write_place};
 use console_calls::{Desk, Served, return_to};
@@ -49,7 +49,6 @@ pub fn apply_finding<B: Bus>(
         MakesSystemCall (λ r spot. call_with_finding finding.now r spot to) script
         (scene regs.old (B.memory bus.old) desk.old) (table_view table.old) result
         (scene regs.new (B.memory bus.new) desk.new) (table_view table.new) }
-    ensures grows { OnErr result (is_done finding.now ≡ true) }
     ensures needs { (f : SystemAnswers) → OnErr result (Grows (B.is_ready bus.old)
         (result_of f (call_with_finding finding.now regs.old desk.old.desk.spot to))) }
 {

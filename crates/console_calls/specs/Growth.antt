@@ -1,4 +1,4 @@
--- The calls that can run out of memory. (This project's own.)
+-- The console calls that can run out of memory. (This project's own.)
 use Rattle.std.specs.Prelude.{ℕ, ◌==◌, ◌||◌, if◌then◌else◌, not, Bool, false, List, slice_get}
 use Rattle.std.specs.Option.{option_map_or}
 use Rattle.i8080.specs.declared.registers.Regs.{Regs}

@@ -23,7 +23,7 @@ use std::alloc::AllocError;
 ///
 /// `Err` means out of memory. It changes no file and nothing that the run did; the call may have marked some of its
 /// own questions, but no others. A call is an `Err` only if it asks the host files something that was not asked before,
-/// or changes a file; so `has`, `records`, `read` and `extent` never are about a file that the run made.
+/// or changes a file; so `has`, `records`, `read` and `extent` never fail for a file that the run made.
 #[derive(Drop)]
 pub struct Table<'a> {
     /// The host files.

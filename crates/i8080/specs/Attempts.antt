@@ -1,6 +1,6 @@
 -- The results and effects of functions that execute an instruction, or a part of one, over a memory that may refuse a read or a
 -- write. (This project's own.)
-use Rattle.std.specs.Prelude.{ℕ, ◌+◌, ◌≡◌, ◌≢◌, ◌<◌, Bool, true, false, IsTrue, List, IfOk, OnOk, OnErr}
+use Rattle.std.specs.Prelude.{ℕ, ◌≡◌, ◌≢◌, ◌<◌, Bool, true, false, IsTrue, List, IfOk, OnOk, OnErr}
 use Rattle.std.specs.declared.result.Result.{Result}
 use Rattle.i8080.specs.declared.registers.Regs.{Regs}
 use Rattle.i8080.specs.declared.outcome.Did.{Did}
@@ -11,6 +11,7 @@ use Rattle.i8080.specs.Memory.{bytes, write_all}
 use Rattle.i8080.specs.Reading.{Reading, end_of}
 use Rattle.i8080.specs.End.{End}
 use Rattle.i8080.specs.Opcodes.{decoded}
+use Rattle.i8080.specs.Registers.{onward}
 use Rattle.i8080.specs.Instruction.{operation, decided}
 use Rattle.i8080.specs.Performs.{looks_after, did_of, regs_after, own_after, Executes}
 
@@ -18,9 +19,9 @@ use Rattle.i8080.specs.Performs.{looks_after, did_of, regs_after, own_after, Exe
 abbrev pub IsKept : ℕ → Type 0
 IsKept opcode = opcode ≢ HLT
 
--- A read of any of this many cells, starting with `a`, is never refused.
+-- A read of any of this many cells, starting with `a`, is never refused; the cell after 0FFFFH is 0000H.
 abbrev pub AreReadable : (ℕ → Bool) → ℕ → ℕ → Type 0
-AreReadable readable a count = (i : ℕ) → i < count → IsTrue (readable (a + i))
+AreReadable readable a count = (i : ℕ) → i < count → IsTrue (readable (onward a i))
 
 -- The result and the effects of a call that executes a tree of reads and its end over a memory that may refuse any read or write and
 -- notes no look: on `Ok` those of the instruction, which looked at nothing new; on `Err` nothing changed.
@@ -35,7 +36,8 @@ pub record Guesses {X : Type 0} (t : Reading End) (r : Regs) (m : memory.Memory)
   pub beneath : m'.beneath ≡ m.beneath
   pub lender : m'.lender ≡ m.lender
 
--- The same over either kind of memory: one that is sure refuses only a write to a cell that was not ready.
+-- The result and the effects of such a call over either kind of memory: one that is sure refuses only a write to a cell that was not
+-- ready.
 pub record Attempts {X : Type 0} (is_sure : Bool) (t : Reading End) (r : Regs) (m : memory.Memory) (ready : ℕ → Bool) (result : Result Did X) (r' : Regs) (m' : memory.Memory) : Type 0 where
   pub sure : is_sure ≡ true → Executes t r m ready result r' m'
   pub unsure : is_sure ≡ false → Guesses t r m result r' m'

@@ -1,4 +1,4 @@
-ghost use Rattle.std.specs.Prelude.{◌≡◌, ◌<◌, ℕ, Bool, true, false, IsTrue, IfOk, OnOk, OnErr};
+ghost use Rattle.std.specs.Prelude.{◌≡◌, ◌<◌, ℕ, Bool, true, false, IsTrue, IsOk, IfOk, OnOk, OnErr};
 ghost use Rattle.i8080.specs.Memory.{Memory, bytes, look, with_writes};
 ghost use Rattle.i8080.specs.Reading.{Cell, Done};
 ghost use Rattle.i8080.specs.Registers.{onward};
@@ -29,7 +29,7 @@ pub trait Access {
     /// Whether no read is refused, and a write only if its cell was not ready. If not, a read is no look.
     ghost is_sure: { Bool };
 
-    /// Whether a read of a cell is never refused.
+    /// Whether `try_read` never refuses a cell, and `operand` and `operand_word` may read it.
     ghost is_readable: { Self → ℕ → Bool };
 
     /// The address below which opcodes are kept.
@@ -56,6 +56,7 @@ pub trait Access {
         ensures looks { OnOk result ((memory self.new).looks
             ≡ look (memory self.old).own (memory self.old).looks a) }
         ensures refused { OnErr result (is_sure ≡ false) }
+        ensures readable { IsTrue (is_readable self.old a) → IsOk result }
         ensures quiet { is_sure ≡ false → (memory self.new).looks ≡ (memory self.old).looks }
         ensures kept { (q : ℕ) → IsTrue (is_ready self.old q) → IsTrue (is_ready self.new q) }
         ensures own { (memory self.new).own ≡ (memory self.old).own }

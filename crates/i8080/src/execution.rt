@@ -50,7 +50,7 @@ fn perform<M: Access>(regs: &mut Regs, bus: &mut M, op: Op) -> Result<Did, M::Re
             Ok(Did::Went)
         }
         Some(Err(refusal)) => {
-            // It is not said what a call that is given PC makes of this one.
+            // `go_on` may leave any PC in the registers.
             regs.pc = pc;
             Err(refusal)
         }

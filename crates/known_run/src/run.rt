@@ -507,7 +507,8 @@ fn run_rare<M: Access>(regs: &mut Regs, pc: u16, bus: &mut M, steps: u64) -> Ran
 }
 
 /// Executes at most `steps` instructions, up to the first whose opcode the memory does not keep, that it refuses, or that is an
-/// undefined byte; the opcode of HLT is never kept. Returns the number of executed instructions.
+/// undefined byte; the opcode of HLT is never kept. Returns the number of executed instructions. No clause says that it does not end
+/// earlier, which would only cost time.
 ///
 /// The loop contains the code of every instruction and calls nothing.
 #[inline(always)]

@@ -1,5 +1,5 @@
 -- A run, while its steps are executed.
-use Rattle.std.proofs.Common.{inl, inr, ◌≡◌, ◌≢◌, ℕ, ◌+◌, ◌<◌, ◌≤◌, ◌⊎◌, List, true, false, length, max, Option, Some, None, Ok, Err, refl, sym, ◌∙◌, ap, subst, arith, IfOk, IfSome, OnErr}
+use Rattle.std.proofs.Common.{inl, inr, ◌≡◌, ◌≢◌, ℕ, ◌+◌, ◌<◌, ◌≤◌, ◌⊎◌, List, true, false, length, max, Option, Some, None, Ok, Err, refl, sym, ◌∙◌, ap, subst, arith, IfErr, IfOk, IfSome, OnErr, OnOk}
 use Rattle.std.proofs.lemmas.Bool.{cases_lt}
 use Rattle.std.proofs.lemmas.Bool.Decides.{eqb_tells}
 use Rattle.std.proofs.Math.Nat.{eq-or-lt_of_le}
@@ -15,7 +15,7 @@ use Rattle.machine.specs.declared.noting.Noting.TheVariants.{Failed, Looks, Noth
 use Rattle.machine.specs.declared.noting.RunNotes.{RunNotes}
 use Rattle.machine.specs.declared.session.TheConstants.{STEP_LIMIT}
 use Rattle.machine.specs.declared.stretch.Until.{Until}
-use Rattle.machine.specs.declared.stretch.Until.TheVariants.{Call, End}
+use Rattle.machine.specs.declared.stretch.Until.TheVariants.{Call, End, EndUnnoted}
 use Rattle.machine.specs.Bound.{IsBound}
 use Rattle.machine.specs.FirstLooks.{AllNoted, ForgetsSeenStep, IsFirstLooks, NotesSeenStep}
 use Rattle.machine.specs.Inputs.{Session}
@@ -23,7 +23,7 @@ use Rattle.machine.specs.Machine.{Answers, AddsLooks, HasNoQuestions, after, loo
 use Rattle.machine.specs.Runs.{IsAt, IsNoting, KeepsNotes, asked_by, seen_by}
 use Rattle.machine.specs.StateView.{AllLooks, PartialState, StateView}
 use Rattle.machine.specs.Step.{is_call}
-use Rattle.machine.specs.Stretch.{CallsNothing, Ends, GoesQuietly, RunsQuietly, RunsTo, step_after}
+use Rattle.machine.specs.Stretch.{CallsNothing, Ends, GoesQuietly, RunsQuietly}
 use Rattle.machine.specs.TakesStep.{TakesStep}
 use Rattle.machine.proofs.FirstLemmas.{erased_known}
 use Rattle.machine.proofs.NoteLemmas.{passed, seen_before, seen_now}
@@ -122,21 +122,21 @@ module _ (s : Session) (n : ℕ) (old : StateView) (was is : RunNotes) (run : Is
           unnoted (λ _. (past, seen_before (session_answers s) was.looks is.looks n old.looked mid.looked new.looked run.first (run.noted l).1 took.extends asks cells drained past))
           (other (λ _ e. omega (arith, e, past)))
 
-    pub taken : IsAt s (step_after n (Ok stop)) new is
-    taken = record {
-      at = at stop took;
+    pub taken : (k : ℕ) → asked_by k stop ≡ n + 1 → IsAt s k new is
+    taken k asked = record {
+      at = at stop took asked;
       bound = ap (λ (parts : List ℕ × List ℕ). image_at parts.0 parts.1) beneath ∙ bound;
       first = noted.first;
       seen_in = noted.seen_in;
-      noted = λ l. (low stop (noted.seen l), noted.all l);
+      noted = λ l. (low stop asked (noted.seen l), noted.all l);
     } where
-      at : (stop : Option Cause) → TakesStep s old (Ok stop) mid → after (session_answers s) (step_after n (Ok stop)) ≡ Some new.state
-      at None w = after_step (outcome (session_answers s)) start n old.state _ run.at w.outcome ∙ ap (λ (st : PartialState). Some st) (sym same)
-      at (Some cause) w = run.at ∙ ap (λ (st : PartialState). Some st) (sym (same ∙ w.stays))
+      at : (stop : Option Cause) → TakesStep s old (Ok stop) mid → asked_by k stop ≡ n + 1 → after (session_answers s) k ≡ Some new.state
+      at None w e = ap (after (session_answers s)) e ∙ after_step (outcome (session_answers s)) start n old.state _ run.at w.outcome ∙ ap (λ (st : PartialState). Some st) (sym same)
+      at (Some cause) w e = ap (after (session_answers s)) (let here : k ≡ n = omega (arith, e) in here) ∙ run.at ∙ ap (λ (st : PartialState). Some st) (sym (same ∙ w.stays))
 
-      low : (stop : Option Cause) → is.looks.seen ≡ max was.looks.seen (n + 1) → step_after n (Ok stop) ≤ is.looks.seen
-      low None e = omega (arith, e)
-      low (Some cause) e = omega (arith, e)
+      low : (stop : Option Cause) → asked_by k stop ≡ n + 1 → is.looks.seen ≡ max was.looks.seen (n + 1) → k ≤ is.looks.seen
+      low None e f = omega (arith, e, f)
+      low (Some cause) e f = omega (arith, e, f)
 
   -- A step that failed.
   pub failed_at : (mid : StateView) (e e' : AllocError) → TakesStep s old (Err e) mid → IsBound s mid → is.looks ≡ was.looks → is.noting ≡ Failed e' → IsAt s n mid is
@@ -156,6 +156,9 @@ calls_on f from n end before then i st low high at = elim (cases_lt i n) [
   | inl below ↦ before i st low below at
   | inr above ↦ then i st above high at
 ]
+
+pub calls_upto : (f : Answers) (from n k : ℕ) → CallsNothing f from n → k ≤ n → CallsNothing f from k
+calls_upto f from n k calls less i st low high at = calls i st low (omega (arith, less, high)) at
 
 -- One more step that is no call.
 pub one_more : (f : Answers) (from n : ℕ) (old : PartialState) → after f n ≡ Some old → CallsNothing f from n → is_call old.core ≡ false → CallsNothing f from (n + 1)
@@ -178,6 +181,8 @@ calls_known s from n k old new was run ran calls =
 pub ends_here : (until : Until) (n end : ℕ) (st : PartialState) → (n ≡ end) ⊎ ((until ≡ Call) × (is_call st.core ≡ true)) → Ends until n end st
 ends_here End n end st (inl e) = e
 ends_here End n end st (inr h) = absurd (let no : End ≡ Call = h.0 in cc)
+ends_here EndUnnoted n end st (inl e) = e
+ends_here EndUnnoted n end st (inr h) = absurd (let no : EndUnnoted ≡ Call = h.0 in cc)
 ends_here Call n end st (inl e) = λ below. absurd (omega (arith, e, below))
 ends_here Call n end st (inr h) = λ _. h.1
 
@@ -187,23 +192,20 @@ pub stops_at : (s : Session) (old mid : StateView) (st : PartialState) (stop : O
 stops_at s old mid st None w same = tt
 stops_at s old mid st (Some cause) w same = ap (outcome (session_answers s)) (same ∙ w.stays) ∙ w.outcome
 
--- If one step fails, it is not executed.
-pub fails_before : (until : Until) (s : Session) (from n : ℕ) (st : PartialState) (result : Result (Option Cause) AllocError) → RunsTo until s from (from + 1) n result st
-    → OnErr result (n ≡ from)
-fails_before until s from n st (Ok stop) w = tt
-fails_before until s from n st (Err e) w = omega (arith, w.within, w.failed)
-
--- All looks of a run are noted if none was left out.
-pub all_noted : (from n : ℕ) (was is : Noting) (seen seen' : ℕ) (result : Result (Option Cause) AllocError) → from ≤ n → (IsNoting was → IsNoting is) → ((e : AllocError) → is ≡ Failed e → ⊥)
+-- All looks of a run are noted if it did not fail.
+pub all_noted : (from n : ℕ) (was is : Noting) (seen seen' : ℕ) (result : Result (Option Cause) AllocError) → from ≤ n → OnOk result (is ≡ was)
     → IfOk result (λ stop. is ≡ Looks → seen' ≡ max seen (asked_by n stop)) → seen_by was seen ≡ Some from → IfOk result (λ stop. seen_by is seen' ≡ Some (asked_by n stop))
-all_noted from n Nothing is seen seen' result low on done to e = absurd (cc)
-all_noted from n (Failed error) is seen seen' result low on done to e = absurd (cc)
-all_noted from n Looks Nothing seen seen' result low on done to e = absurd (on tt)
-all_noted from n Looks (Failed error) seen seen' result low on done to e = absurd (done error refl)
-all_noted from n Looks Looks seen seen' (Ok None) low on done to e =
+all_noted from n Nothing is seen seen' result low same to e = absurd (cc)
+all_noted from n (Failed error) is seen seen' result low same to e = absurd (cc)
+all_noted from n Looks is seen seen' (Err error) low same to e = tt
+all_noted from n Looks is seen seen' (Ok stop) low same to e =
     let here : seen ≡ from = cc in
-    ap (λ (k : ℕ). Some k) (omega (arith, to refl, here, low))
-all_noted from n Looks Looks seen seen' (Ok (Some cause)) low on done to e =
-    let here : seen ≡ from = cc in
-    ap (λ (k : ℕ). Some k) (omega (arith, to refl, here, low))
-all_noted from n Looks Looks seen seen' (Err error) low on done to e = tt
+    rw same (ap (λ (k : ℕ). Some k) (to same ∙ past stop here)) where
+      past : (stop : Option Cause) → seen ≡ from → max seen (asked_by n stop) ≡ asked_by n stop
+      past None here = omega (arith, here, low)
+      past (Some cause) here = omega (arith, here, low)
+
+-- A run that failed notes nothing.
+pub none_noted : (is : Noting) (seen : ℕ) (result : Result (Option Cause) AllocError) → IfErr result (λ e. is ≡ Failed e) → OnErr result (seen_by is seen ≡ None)
+none_noted is seen (Ok stop) off = tt
+none_noted is seen (Err error) off = rw off refl

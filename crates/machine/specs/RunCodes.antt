@@ -1,4 +1,4 @@
--- An encoding of all files. (This project's own.)
+-- The encoding of all files, by which two proofs that runs are equal are the same. (This project's own.)
 use Rattle.std.specs.Prelude.{◌≡◌}
 use Rattle.std.specs.FinMap.{code}
 use Rattle.std.specs.Coded.{Coded, Coded-set, codes, coded_ℕ, coded_list, coded_option}

@@ -1,12 +1,12 @@
 -- Steps one after another. (This project's own.)
-use Rattle.std.specs.Prelude.{◌≡◌, ℕ, ◌+◌, ◌<◌, ◌≤◌, true, false, Option, Some, None, Ok, Err, IfOk, IfNone, IfSome, OnErr}
+use Rattle.std.specs.Prelude.{◌≡◌, ℕ, ◌+◌, ◌<◌, ◌≤◌, Bool, true, false, Option, Some, IfOk, IfNone, IfSome, OnErr}
 use Rattle.std.specs.declared.result.Result.{Result}
 use Rattle.std.specs.declared.alloc.AllocError.{AllocError}
 use Rattle.interaction_trees.specs.Outcome.{Stop}
 use Rattle.console_calls.specs.declared.cause.Cause.{Cause}
 use Rattle.machine.specs.Inputs.{Session}
 use Rattle.machine.specs.declared.stretch.Until.{Until}
-use Rattle.machine.specs.declared.stretch.Until.TheVariants.{End, Call}
+use Rattle.machine.specs.declared.stretch.Until.TheVariants.{End, Call, EndUnnoted}
 use Rattle.machine.specs.StateView.{AllLooks, PartialState, StateView}
 use Rattle.machine.specs.Step.{is_call}
 use Rattle.machine.specs.Bound.{image_beneath, IsBound}
@@ -40,24 +40,24 @@ pub record RunsQuietly (n : ℕ) (old new : StateView) : Type 0 where
   pub looked : new.looked ≡ old.looked
   pub beneath : image_beneath new ≡ image_beneath old
 
--- The step after a step, or the same if that stopped or failed.
-abbrev pub step_after : ℕ → Result (Option Cause) AllocError → ℕ
-step_after n (Ok None) = n + 1
-step_after n (Ok (Some cause)) = n
-step_after n (Err error) = n
+-- Whether a run ends when it cannot note a step.
+abbrev pub needs_notes : Until → Bool
+needs_notes EndUnnoted = false
+needs_notes until = true
 
 -- A run that is to end there came to its last step, or to a call before it.
 abbrev pub Ends : Until → ℕ → ℕ → PartialState → Type 0
 Ends End n end st = n ≡ end
 Ends Call n end st = n < end → is_call st.core ≡ true
+Ends EndUnnoted n end st = n ≡ end
 
--- Steps from `from` on led to the state after n steps: to where the run is to end, to a stop before it, or to an error before it. A run to
--- a call makes no call and does not stop at one.
+-- Steps from `from` on led to the state after n steps: to where the run is to end, to a stop before it, or to an error, which comes before it
+-- unless a step cannot be noted. A run to a call makes no call and does not stop at one.
 pub record RunsTo (until : Until) (s : Session) (from end n : ℕ) (result : Result (Option Cause) AllocError) (new : PartialState) : Type 0 where
   pub within : (from ≤ n) × (n ≤ end)
   pub at : after (session_answers s) n ≡ Some new
   pub ended : IfOk result (λ stop. IfNone stop (Ends until n end new))
   pub stopped : IfOk result (λ stop. IfSome stop (λ cause. (n < end) × (outcome (session_answers s) new ≡ Stop cause)))
-  pub failed : OnErr result (n < end)
+  pub failed : needs_notes until ≡ false → OnErr result (n < end)
   pub calls : until ≡ Call → CallsNothing (session_answers s) from n
   pub apart : until ≡ Call → IfOk result (λ stop. IfSome stop (λ _. is_call new.core ≡ false))

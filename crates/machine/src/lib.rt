@@ -3,8 +3,8 @@
 //! - `session`, `bytes`: a session, its limits and its edits; bytes as a value
 //! - `state`: a state of a run: the registers, the overlay, the desk, and what was done to the files
 //! - `system_area`: a step in the system area: the calls, and the stops there
-//! - `stretch`, `laws`: `run_and_note` executes steps, notes their looks and counts them, and `step` executes one step; the law that the
-//!   plain machine makes the same steps
+//! - `stretch`, `laws`: `run_and_note` executes steps, notes their looks and counts them, and `step` executes one step; the laws that the
+//!   plain machine makes the same steps, and which cells an instruction writes and reads
 //! - `run`, `noting`, `whole_run`: a run in progress, as a value; the looks that a run notes; a run that has ended
 //! - `saved_state`, `meter`: a saved state, and the state that is restored from it; the count of executed steps
 //! - `trial`: the cells that the next call of a run writes and reads, by a trial

@@ -1,4 +1,4 @@
-ghost use Rattle.std.specs.Prelude.{◌≡◌, ◌<◌, ◌≤◌, ◌⊎◌, true, false, IfErr, IsOk, length, max};
+ghost use Rattle.std.specs.Prelude.{◌≡◌, ◌<◌, ◌≤◌, ◌⊎◌, true, false, IfErr, IsOk, OnOk, length, max};
 ghost use Rattle.first_looks.specs.FirstLooks.{with_seen};
 ghost use Rattle.machine.specs.FirstLooks.{ForgetsSeenStep, NotesSeenStep};
 ghost use Rattle.machine.specs.Machine.{HasNoQuestions, looks_from};
@@ -56,10 +56,16 @@ pub(crate) fn pass_to(notes: &mut RunNotes, reached: u64)
     }
 }
 
-// Notes the new looks of a state, with the cells from index `from` on, as looks of this step, if they are to be noted next. The script
-// offsets and the questions to the host files are forgotten. If an allocation fails, the run notes nothing any more.
+// Notes the new looks of a state, with the cells from index `from` on, as looks of this step, if the run notes looks and this is the first
+// step that is not seen; earlier steps are noted already. The script offsets and the questions to the host files are forgotten. If an
+// allocation fails, the run notes nothing any more.
 #[inline(always)]
-pub(crate) fn note_step(notes: &mut RunNotes, step: u64, state: &mut State, from: usize)
+pub(crate) fn note_step(
+    notes: &mut RunNotes,
+    step: u64,
+    state: &mut State,
+    from: usize,
+) -> Result<(), AllocError>
     requires few { from ≤ length state.old.looked.cells }
     requires within { step < STEP_LIMIT }
     ensures next { notes.old.noting ≡ Looks → step ≡ notes.old.looks.seen
@@ -69,13 +75,17 @@ pub(crate) fn note_step(notes: &mut RunNotes, step: u64, state: &mut State, from
         × (IsNoting notes.new.noting × (notes.new.noting ≡ Looks → ⊥))) }
     ensures other { (notes.old.noting ≡ Looks → step ≡ notes.old.looks.seen → ⊥)
         → (notes.new.looks ≡ notes.old.looks) × (notes.new.noting ≡ notes.old.noting) }
+    ensures noted { OnOk result (notes.new.noting ≡ notes.old.noting) }
+    ensures failed { IfErr result (λ failure. notes.new.noting ≡ Failed failure) }
     ensures drained { HasNoQuestions state.new.looked }
     ensures state { state.new.state ≡ state.old.state }
     ensures cells { state.new.looked.cells ≡ state.old.looked.cells }
     ensures beneath { state.new.beneath ≡ state.old.beneath }
 {
+    let mut noted = Ok(());
     if matches!(notes.noting, Noting::Looks) && step == notes.looks.seen() {
-        match state.note_looks(from, &mut notes.looks) {
+        noted = state.note_looks(from, &mut notes.looks);
+        match noted {
             Ok(()) => notes.looks.next_step(),
             Err(failure) => {
                 notes.looks.erase_from(step);
@@ -84,4 +94,5 @@ pub(crate) fn note_step(notes: &mut RunNotes, step: u64, state: &mut State, from
         }
     }
     state.forget_questions();
+    noted
 }

@@ -1,6 +1,6 @@
 // Steps one after another.
 
-ghost use Rattle.std.specs.Prelude.{◌≡◌, ◌==◌, ◌+◌, ◌-◌, ◌^◌, ◌<◌, ◌≤◌, true, false, IfOk, IfNone, IfSome, OnErr, OnOk, max};
+ghost use Rattle.std.specs.Prelude.{◌≡◌, ◌==◌, ◌+◌, ◌-◌, ◌^◌, ◌<◌, ◌≤◌, true, false, IfErr, IfOk, IfNone, IfSome, OnErr, OnOk, max};
 ghost use Rattle.interaction_trees.specs.Outcome.{Stop};
 ghost use Rattle.i8080.specs.Instruction.{instruction};
 ghost use Rattle.i8080.specs.Performs.{Performs};
@@ -12,8 +12,8 @@ ghost use Rattle.machine.specs.Session.{image_of};
 ghost use Rattle.machine.specs.Step.{bdos_entry};
 ghost use Rattle.machine.specs.Stops.{stop_of_instruction};
 ghost use Rattle.machine.specs.TakesStep.{memory_over_image, TakesStep};
-ghost use Rattle.machine.specs.Stretch.{RunsTo, RunsQuietly, step_after};
-ghost use Rattle.machine.specs.declared.noting.Noting.TheVariants.{Looks};
+ghost use Rattle.machine.specs.Stretch.{RunsTo, RunsQuietly, needs_notes};
+ghost use Rattle.machine.specs.declared.noting.Noting.TheVariants.{Failed, Looks};
 
 use crate::meter::Meter;
 use crate::noting::{Noting, RunNotes, note_step, pass_to};
@@ -108,10 +108,12 @@ fn execute_step(
 /// Where a run ends, unless it stops.
 #[derive(Clone, Copy)]
 pub(crate) enum Until {
-    /// At its last step.
+    /// At its last step. It fails if it cannot note a step.
     End,
-    /// At its last step, or before a call.
+    /// At its last step, or before a call. It fails if it cannot note a step.
     Call,
+    /// At its last step. If it cannot note a step, it goes on without notes.
+    EndUnnoted,
 }
 
 // Returns whether a run ends before its last step, with PC at this address.
@@ -121,36 +123,47 @@ fn ends_before(until: Until, pc: u16) -> bool
     ensures other { result ≡ false → until ≡ Until.Call → (pc == bdos_entry) ≡ false }
 {
     match until {
-        Until::End => false,
+        Until::End | Until::EndUnnoted => false,
         Until::Call => pc == BDOS_ENTRY,
     }
 }
 
-// Executes step `n` outside the loop over known cells, or returns the cause of a stop, and notes the looks as the notes say. If it
-// fails, the run notes nothing any more.
+// Executes step `step` outside the loop over known cells and counts it, or returns the cause of a stop, and notes the looks as the notes
+// say. If it fails, the run notes nothing any more; a step that only could not be noted was executed.
 #[inline(always)]
 fn slow_step(
     state: &mut State,
     notes: &mut RunNotes,
     session: &Session,
-    n: u64,
+    step: &mut u64,
+    until: Until,
 ) -> Result<Option<Cause>, AllocError>
-    requires within { n < STEP_LIMIT }
-    requires run { IsAt session.now n state.old notes.old }
-    ensures run { IsAt session.now (step_after n result) state.new notes.new }
+    requires within { step.old < STEP_LIMIT }
+    requires run { IsAt session.now step.old state.old notes.old }
+    ensures run { IsAt session.now step.new state.new notes.new }
+    ensures low { step.old ≤ step.new }
+    ensures asked { IfOk result (λ stop. asked_by step.new stop ≡ step.old + 1) }
+    ensures failed { OnErr result (step.new ≤ step.old + 1) }
+    ensures unnoted { OnErr result (needs_notes until ≡ false → step.new ≡ step.old) }
     ensures stops { IfOk result (λ stop. IfSome stop (λ cause.
         outcome (session_answers session.now) state.new.state ≡ Stop cause)) }
     ensures stays { IfOk result (λ stop. IfSome stop (λ _. state.new.state ≡ state.old.state)) }
     ensures notes { KeepsNotes notes.old notes.new }
     ensures seen { OnOk result (notes.new.noting ≡ Looks
-        → notes.new.looks.seen ≡ max notes.old.looks.seen (n + 1)) }
+        → notes.new.looks.seen ≡ max notes.old.looks.seen (step.old + 1)) }
+    ensures noted { needs_notes until ≡ true → OnOk result (notes.new.noting ≡ notes.old.noting) }
+    ensures off { IfErr result (λ failure. notes.new.noting ≡ Failed failure) }
     ensures drained { OnOk result (HasNoQuestions state.new.looked) }
 {
     let cells = state.look_count();
     match execute_step(state, session, true) {
         Ok(stop) => {
-            note_step(notes, n, state, cells);
-            Ok(stop)
+            let noted = note_step(notes, *step, state, cells);
+            *step += u64::from(stop.is_none());
+            match noted {
+                Err(failure) if !matches!(until, Until::EndUnnoted) => Err(failure),
+                _ => Ok(stop),
+            }
         }
         Err(failure) => {
             notes.noting = Noting::Failed(failure);
@@ -159,12 +172,13 @@ fn slow_step(
     }
 }
 
-/// Executes steps from `step` on: up to step `end`, to a stop, whose cause it returns, or to where else the run is to end. Notes the
+/// Executes steps from `step` on: up to step `end`, to a stop, whose cause it returns, or, with `Until::Call`, to a call. Notes the
 /// looks of the steps and of a stop as the notes say. `step` is then the step that was reached, also at `Err`.
 ///
 /// # Errors
 ///
-/// `Err` means out of memory. It leaves the state that was reached, and the run notes nothing any more.
+/// `Err` means out of memory, for a step or, except with `Until::EndUnnoted`, for its notes. It leaves the state that was reached, and the
+/// run notes nothing any more.
 #[inline(never)]
 pub(crate) fn run_until(
     state: &mut State,
@@ -181,6 +195,10 @@ pub(crate) fn run_until(
     ensures notes { KeepsNotes notes.old notes.new }
     ensures seen { IfOk result (λ stop. notes.new.noting ≡ Looks
         → notes.new.looks.seen ≡ max notes.old.looks.seen (asked_by step.new stop)) }
+    ensures noted { needs_notes until ≡ true → OnOk result (notes.new.noting ≡ notes.old.noting) }
+    ensures off { IfErr result (λ failure. notes.new.noting ≡ Failed failure) }
+    ensures ended { needs_notes until ≡ true → notes.old.noting ≡ Looks
+        → OnErr result (step.new ≤ notes.new.looks.seen + 1) }
 {
     while *step < end {
         *step += run_quietly(state, end - *step);
@@ -188,8 +206,8 @@ pub(crate) fn run_until(
         if *step == end || ends_before(until, state.regs.pc) {
             return Ok(None);
         }
-        match slow_step(state, notes, session, *step) {
-            Ok(None) => *step += 1,
+        match slow_step(state, notes, session, step, until) {
+            Ok(None) => {}
             Ok(Some(cause)) => return Ok(Some(cause)),
             Err(failure) => return Err(failure),
         }
@@ -214,13 +232,13 @@ pub fn run_and_note(
     requires order { (step.old ≤ end) × (end ≤ STEP_LIMIT) }
     requires run { IsAt session.now step.old state.old notes.old }
     requires room { meter.old + (end - step.old) < 2 ^ 64 }
-    ensures runs { RunsTo Until.End session.now step.old end step.new result state.new.state }
+    ensures runs { RunsTo Until.EndUnnoted session.now step.old end step.new result state.new.state }
     ensures run { IsAt session.now step.new state.new notes.new }
     ensures notes { KeepsNotes notes.old notes.new }
     ensures ticks { meter.new + step.old ≡ meter.old + step.new }
 {
     let from = *step;
-    let ended = run_until(state, notes, session, step, end, Until::End);
+    let ended = run_until(state, notes, session, step, end, Until::EndUnnoted);
     meter.tick_by(*step - from);
     ended
 }

@@ -37,7 +37,7 @@ impl SpareMemory {
         Ok(Overlay::from_parts(marks, Cells::new(alloc)?, beneath))
     }
 
-    /// Keeps the memory of a trial for the next one.
+    /// Takes the memory of a trial, which the next one may use.
     pub fn keep(&mut self, noted: Overlay) {
         let (_, marks) = noted.into_parts();
         self.marks = Some(marks);

@@ -1,12 +1,16 @@
 -- The byte of a known cell, if it is returned.
-use Rattle.std.proofs.Common.{◌≡◌, ◌<◌, ◌+◌, ◌∙◌, ap, sym, refl, subst, arith, Option, Some, None, IfSome, true, ℕ}
+use Rattle.std.proofs.Common.{◌≡◌, ◌<◌, ◌≤◌, ◌+◌, ◌∙◌, ap, sym, refl, subst, arith, Option, Some, None, IfSome, IsTrue, true, ℕ, zero, suc, ltb-true, lt-ltb}
+use Rattle.std.proofs.lemmas.Bool.{and_from, and_parts}
+use Rattle.i8080.specs.Attempts.{AreReadable}
 use Rattle.i8080.specs.Memory.{look, over}
 use Rattle.i8080.specs.Registers.{onward, word}
 use Rattle.i8080.specs.Reading.{Cell, Done}
 use Rattle.i8080.specs.Instruction.{word_at}
 use Rattle.i8080.specs.Performs.{Reads}
 use Rattle.pagemem.specs.Overlay.{own_of, looks_of, beneath_of, memory_of}
-use Rattle.pagemem.specs.Known.{is_known, byte_in}
+use Rattle.pagemem.specs.Known.{is_known, is_readable, byte_in}
+use Rattle.pagemem.specs.Learned.{AreKnown}
+use Rattle.pagemem.specs.declared.known.Known.{Known}
 use Rattle.pagemem.specs.declared.overlay.Overlay.{Overlay}
 use Rattle.pagemem.proofs.KnownLemmas.{look_seen}
 
@@ -44,3 +48,22 @@ reads_known_word o a b q low high e f = record {
   beneath = refl;
   lender = refl;
 }
+
+-- Cells that may be read without a test are known, and the last cell is not among them.
+module _ (k : Known) (a n : ℕ) (low : a < 65536) (readable : AreReadable (is_readable k) a n) where
+  readable_at : (i : ℕ) → i < n → a + i < 65536 → (a + i < 65535) × IsTrue (is_known k (a + i))
+  readable_at i h inside =
+      let both = and_parts _ _ (subst (λ (q : ℕ). IsTrue (is_readable k q)) (let e : onward a i ≡ a + i = omega arith in e) (readable i h)) in
+      (ltb-true _ _ both.1, both.0)
+
+  known_readable : (i : ℕ) → i < n → (a + i < 65535) × IsTrue (is_known k (a + i))
+  known_readable zero h = readable_at zero h (omega arith)
+  known_readable (suc i) h = let last = (known_readable i (omega (arith, h))).0 in readable_at (suc i) h (omega (arith, last))
+
+  pub are_known : AreKnown (is_known k) a n
+  are_known i h = (known_readable i h).1
+
+-- The known bytes of an instruction below the system area may be read.
+pub readable_known : (k : Known) (a n : ℕ) → a < 65024 → n ≤ 3 → AreKnown (is_known k) a n → AreReadable (is_readable k) a n
+readable_known k a n low few known i h =
+    subst (λ (q : ℕ). IsTrue (is_readable k q)) (let e : a + i ≡ onward a i = omega (arith, low, few, h) in e) (and_from _ _ (known i h) (lt-ltb _ _ (omega (arith, low, few, h))))

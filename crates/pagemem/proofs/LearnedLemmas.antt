@@ -2,13 +2,12 @@
 use Rattle.std.proofs.Common.{inl, inr, ◌≡◌, ◌<◌, ◌≤◌, ◌+◌, ◌-◌, ◌⊎◌, ℕ, List, zero, suc, subst, replicate, Bool, cond, eqb, IsTrue, get_or, refl, sym, ◌∙◌, arith, Option, Some, None}
 use Rattle.std.proofs.lemmas.Bool.{cases_lt}
 use Rattle.std.proofs.lemmas.Bool.Decides.{eqb_tells}
-use Rattle.i8080.specs.Attempts.{AreReadable}
 use Rattle.i8080.specs.declared.opcode.Op.{Op}
 use Rattle.i8080.specs.declared.opcode.Op.TheVariants.{Accumulate}
 use Rattle.i8080.specs.declared.opcode.Source.TheVariants.{At, Immediate}
 use Rattle.i8080.specs.Opcodes.{decoded}
 use Rattle.i8080.specs.Operands.{byte_count, operand_count}
-use Rattle.pagemem.specs.Learned.{IsLearned}
+use Rattle.pagemem.specs.Learned.{AreKnown, IsLearned}
 
 -- Each cell with an opcode other than HLT has a learned one.
 abbrev pub AreLearned : (ℕ → Bool) → (ℕ → ℕ) → (ℕ → ℕ) → Type 0
@@ -20,7 +19,7 @@ operands_at_most (Accumulate _ Immediate) = omega arith
 operands_at_most (Accumulate _ (At _)) = omega arith
 operands_at_most _ = omega arith
 
-bytes_at_most : (o : Option Op) → byte_count o ≤ 3
+pub bytes_at_most : (o : Option Op) → byte_count o ≤ 3
 bytes_at_most None = omega arith
 bytes_at_most (Some op) = omega (arith, operands_at_most op)
 
@@ -73,14 +72,14 @@ module _ (was is : ℕ → Bool) (old new opcode after : ℕ → ℕ) (learned :
   ])
 
 -- After an opcode was learned.
-pub learned_by_learning : (known : ℕ → Bool) (byte opcode after : ℕ → ℕ) (a v n : ℕ) → AreLearned known byte opcode → v ≡ byte a → n ≡ byte_count (decoded v) → AreReadable known a n → a < 65024
+pub learned_by_learning : (known : ℕ → Bool) (byte opcode after : ℕ → ℕ) (a v n : ℕ) → AreLearned known byte opcode → v ≡ byte a → n ≡ byte_count (decoded v) → AreKnown known a n → a < 65024
     → ((q : ℕ) → after q ≡ cond (eqb q a) v (opcode q)) → AreLearned known byte after
 learned_by_learning known byte opcode after a v n learned value count readable low opcodes q some = elim (eqb_tells q a) [
   | inl same ↦ here (opcodes q ∙ rw same.0 refl) same.1
   | inr other ↦ let e = opcodes q ∙ rw other.0 refl in rw e (learned q (λ h. some (e ∙ h)))
 ] where
-  all : AreReadable known a (byte_count (decoded v))
-  all = subst (λ (k : ℕ). AreReadable known a k) count readable
+  all : AreKnown known a (byte_count (decoded v))
+  all = subst (λ (k : ℕ). AreKnown known a k) count readable
 
   here : after q ≡ v → q ≡ a → IsLearned known (byte q) q (after q)
   here e f = rw (e, f) (record { known = subst (λ (k : ℕ). IsTrue (known k)) (let z : a + 0 ≡ a = omega arith in z) (all 0 (bytes_at_least (decoded v))); operand = all; same = value; low = low })

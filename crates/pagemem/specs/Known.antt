@@ -1,11 +1,11 @@
 -- What contracts see of known cells. (This project's own.)
-use Rattle.std.specs.Prelude.{ℕ, ◌<◌, Bool, false, List, length, get_or, slice_index}
+use Rattle.std.specs.Prelude.{ℕ, ◌<◌, Bool, false, ◌&&◌, nat_lt, List, length, get_or, slice_index}
 use Rattle.i8080.specs.Memory.{Memory, Own, Looks, is_among}
-use Rattle.i8080.specs.Attempts.{AreReadable}
 use Rattle.i8080.specs.Opcodes.{decoded}
 use Rattle.i8080.specs.Operands.{byte_count}
 use Rattle.i8080.specs.Registers.{onward}
 use Rattle.i8080.specs.declared.access.TheConstants.{HLT}
+use Rattle.pagemem.specs.Learned.{AreKnown}
 use Rattle.pagemem.specs.Pages.{IsLaid}
 use Rattle.pagemem.specs.declared.known.Known.{Known}
 
@@ -13,13 +13,17 @@ use Rattle.pagemem.specs.declared.known.Known.{Known}
 abbrev pub is_known : Known → ℕ → Bool
 is_known k q = get_or k.marks.items q false
 
+-- Whether a byte of an instruction may be read without a test: its cell is known, and is not the last one, which 0000H follows.
+abbrev pub is_readable : Known → ℕ → Bool
+is_readable k q = is_known k q && nat_lt q 65535
+
 -- The byte that is kept for a cell.
 abbrev pub byte_in : Known → ℕ → ℕ
 byte_in k q = slice_index k.bytes.items q
 
 -- Each byte of the instruction that begins at a cell is known.
 abbrev pub IsWholeAt : Known → ℕ → Type 0
-IsWholeAt k q = AreReadable (is_known k) q (byte_count (decoded (byte_in k q)))
+IsWholeAt k q = AreKnown (is_known k) q (byte_count (decoded (byte_in k q)))
 
 -- The learned opcode of a cell, or HLT if it has none.
 abbrev pub opcode_in : Known → ℕ → ℕ

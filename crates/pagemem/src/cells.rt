@@ -138,9 +138,10 @@ impl Cells {
     }
 
     /// Makes the owned pages shared, by a copy of each, so that a snapshot only needs a reference to each. No byte changes. `Err`
-    /// means out of memory; some pages may then be shared.
+    /// means out of memory; a page was then owned, and some may now be shared.
     pub fn share(&mut self) -> Result<(), AllocError>
         ensures shared { OnOk result ((q : ℕ) → is_ready_in self.new q ≡ false) }
+        ensures refused { OnErr result ((q : ℕ) × IsTrue (is_ready_in self.old q)) }
         ensures own { own_in self.new ≡ own_in self.old }
     {
         let alloc = self.alloc;
@@ -166,6 +167,7 @@ fn make_shared(slots: &mut [Slot], at: usize, alloc: Global) -> Result<(), Alloc
     requires { at < length slots.old }
     ensures len { length slots.new ≡ length slots.old }
     ensures shared { OnOk result (IsNotOwned slots.new at) }
+    ensures refused { OnErr result (IsTrue (is_owned_at slots.old at)) }
     ensures others { (i : ℕ) → IsNotOwned slots.old i → OnOk result (IsNotOwned slots.new i) }
     ensures own { own_at slots.new ≡ own_at slots.old }
 {
@@ -189,6 +191,7 @@ fn copy_marked(beneath: &[u8], marks: &[bool], cells: &mut [u8]) -> bool
 // Makes all slots with an owned page shared.
 fn share_slots(slots: &mut [Slot], alloc: Global) -> Result<(), AllocError>
     ensures shared { OnOk result ((q : ℕ) → ready_at slots.new q ≡ false) }
+    ensures refused { OnErr result ((q : ℕ) × IsTrue (ready_at slots.old q)) }
     ensures own { own_at slots.new ≡ own_at slots.old }
 {
     for i in 0..slots.len() {

@@ -1,7 +1,7 @@
-ghost use Rattle.std.specs.Prelude.{◌≡◌, ◌==◌, ◌+◌, ◌*◌, ◌<◌, ◌≤◌, ◌⊎◌, ℕ, true, false, if◌then◌else◌, IfOk, IfSome, length, vec_len, slice_index, get_or};
-ghost use Rattle.pagemem.specs.Learned.{IsLearned};
+ghost use Rattle.std.specs.Prelude.{◌≡◌, ◌==◌, ◌+◌, ◌*◌, ◌<◌, ◌≤◌, ◌⊎◌, ℕ, true, false, if◌then◌else◌, IfOk, IfNone, IfSome, length, vec_len, slice_index, get_or};
+ghost use Rattle.pagemem.specs.Learned.{AreKnown, IsLearned};
 ghost use Rattle.i8080.specs.Registers.{word};
-ghost use Rattle.i8080.specs.Attempts.{AreReadable, IsKept};
+ghost use Rattle.i8080.specs.Attempts.{IsKept};
 ghost use Rattle.i8080.specs.Opcodes.{decoded};
 ghost use Rattle.i8080.specs.Operands.{byte_count};
 ghost use Rattle.i8080.specs.declared.access.TheConstants.{HLT};
@@ -58,6 +58,7 @@ impl Known {
     #[inline(always)]
     pub fn get(&self, a: u16) -> Option<u8>
         ensures known { IfSome result (λ _. is_known self.now a ≡ true) }
+        ensures unknown { IfNone result (is_known self.now a ≡ false) }
         ensures byte { IfSome result (λ v. v ≡ byte_in self.now a) }
     {
         if self.marks[a as usize] {
@@ -91,20 +92,20 @@ impl Known {
         None
     }
 
-    /// Returns the byte after a cell, if both are known.
+    /// Returns the byte after a known cell, which is known too.
     #[inline(always)]
     pub fn byte_after(&self, a: u16) -> u8
-        requires { AreReadable (is_known self.now) a 2 }
+        requires { AreKnown (is_known self.now) a 2 }
         ensures inside { a < 65535 }
         ensures byte { result ≡ byte_in self.now (a + 1) }
     {
         self.bytes[a as usize + 1]
     }
 
-    /// Returns the word after a cell, low byte first, if all three are known.
+    /// Returns the word after a known cell, low byte first. Both of its cells are known too.
     #[inline(always)]
     pub fn word_after(&self, a: u16) -> u16
-        requires { AreReadable (is_known self.now) a 3 }
+        requires { AreKnown (is_known self.now) a 3 }
         ensures inside { a < 65534 }
         ensures word { result ≡ word (byte_in self.now (a + 1)) (byte_in self.now (a + 2)) }
     {
@@ -134,8 +135,8 @@ impl Known {
     #[inline(always)]
     fn are_known(&self, from: usize, count: usize) -> bool
         requires { from + count ≤ 65536 }
-        ensures known { result ≡ true → AreReadable (is_known self.now) from count }
-        ensures unknown { AreReadable (is_known self.now) from count → result ≡ true }
+        ensures known { result ≡ true → AreKnown (is_known self.now) from count }
+        ensures unknown { AreKnown (is_known self.now) from count → result ≡ true }
     {
         all_set(&self.marks[from..from + count])
     }
@@ -145,7 +146,7 @@ impl Known {
     pub fn opcode(&self, a: u16) -> u8
         ensures kept { result ≡ opcode_in self.now a }
         ensures known { IsKept result → is_known self.now a ≡ true }
-        ensures operand { IsKept result → AreReadable (is_known self.now) a (byte_count (decoded result)) }
+        ensures operand { IsKept result → AreKnown (is_known self.now) a (byte_count (decoded result)) }
         ensures byte { IsKept result → result ≡ byte_in self.now a }
         ensures low { IsKept result → a < SYSTEM_AREA }
     {
@@ -178,7 +179,7 @@ impl Known {
         self.opcodes[a as usize] = HLT;
     }
 
-    /// Sets the bytes of consecutive cells, starting at `at`, which are known from then on.
+    /// Sets the bytes of consecutive cells, starting at `at`, which may be known from then on.
     #[inline(always)]
     pub fn set_cells(&mut self, at: u16, values: &[u8])
         requires { at + length values.now ≤ 65536 }

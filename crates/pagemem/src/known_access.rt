@@ -1,5 +1,5 @@
 ghost use Rattle.std.specs.Prelude.{ℕ, Bool, false};
-ghost use Rattle.pagemem.specs.Known.{is_known};
+ghost use Rattle.pagemem.specs.Known.{is_readable};
 ghost use Rattle.pagemem.specs.Overlay.{is_ready_at, memory_of};
 ghost use Rattle.pagemem.specs.declared.known.TheConstants.{SYSTEM_AREA};
 
@@ -20,7 +20,7 @@ impl Access for Overlay {
 
     ghost is_sure = { false };
 
-    ghost is_readable = { λ o. is_known o.known };
+    ghost is_readable = { λ o. is_readable o.known };
 
     ghost opcode_limit = { SYSTEM_AREA };
 

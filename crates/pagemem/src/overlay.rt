@@ -5,10 +5,11 @@ ghost use Rattle.i8080.specs.Instruction.{one_byte, one_word};
 ghost use Rattle.i8080.specs.Memory.{bytes, look, with_look, with_writes, is_among, over};
 ghost use Rattle.i8080.specs.Registers.{onward, word};
 ghost use Rattle.pagemem.specs.Cells.{own_in, is_ready_in};
-ghost use Rattle.i8080.specs.Attempts.{AreReadable, IsKept};
+ghost use Rattle.i8080.specs.Attempts.{IsKept};
 ghost use Rattle.i8080.specs.Opcodes.{decoded};
 ghost use Rattle.i8080.specs.Operands.{byte_count};
 ghost use Rattle.pagemem.specs.Known.{is_known, byte_in, opcode_in, AreKnownCells, IsKnownCell, IsWholeAt};
+ghost use Rattle.pagemem.specs.Learned.{AreKnown};
 ghost use Rattle.pagemem.specs.Beneath.{cells_beneath};
 
 use crate::beneath::Beneath;
@@ -169,7 +170,7 @@ impl Overlay {
         }
     }
 
-    /// Returns the byte of a cell over the image that the known cells belong to. The cell is known from then on.
+    /// Returns the byte of a cell over the image that the known cells belong to. The cell may be known from then on.
     #[inline(always)]
     pub fn learn(&mut self, image: Image<'_>, a: u16) -> u8
         requires { beneath_of self.old ≡ cells_of image }
@@ -188,6 +189,7 @@ impl Overlay {
         ensures value { IfSome result (λ v. v ≡ over (own_of self.now) (beneath_of self.now) a) }
         ensures unlooked { IfSome result (λ _.
             look (own_of self.now) (looks_of self.now) a ≡ looks_of self.now) }
+        ensures unknown { IfNone result (is_known self.now.known a ≡ false) }
     {
         self.known.get(a)
     }
@@ -200,7 +202,7 @@ impl Overlay {
         ensures unlooked { IsKept result
             → look (own_of self.now) (looks_of self.now) a ≡ looks_of self.now }
         ensures operand { IsKept result
-            → AreReadable (is_known self.now.known) a (byte_count (decoded result)) }
+            → AreKnown (is_known self.now.known) a (byte_count (decoded result)) }
         ensures low { IsKept result → a < SYSTEM_AREA }
     {
         self.known.opcode(a)
@@ -407,9 +409,10 @@ impl Overlay {
     }
 
     /// Makes the owned pages shared, by a copy of each, so that a snapshot only needs a reference to each. What was written and
-    /// looked at does not change, but cells may have to be made ready again. `Err` means out of memory.
+    /// looked at does not change, but cells may have to be made ready again. `Err` means out of memory; a cell was then ready.
     pub fn share(&mut self) -> Result<(), AllocError>
         ensures shared { OnOk result ((q : ℕ) → is_ready_at self.new q ≡ false) }
+        ensures refused { OnErr result ((q : ℕ) × IsTrue (is_ready_at self.old q)) }
         ensures memory { memory_of self.new ≡ memory_of self.old }
         ensures beneath { self.new.beneath ≡ self.old.beneath }
     {

@@ -153,6 +153,7 @@ impl Slot {
     /// Makes an owned page shared, by a copy of it. `Err` means out of memory; the slot is then unchanged.
     pub fn share(&mut self, alloc: Global) -> Result<(), AllocError>
         ensures shared { OnOk result (is_owned self.new ≡ false) }
+        ensures refused { OnErr result (IsTrue (is_owned self.old)) }
         ensures own { slot_own self.new ≡ slot_own self.old }
         ensures err { OnErr result (self.new ≡ self.old) }
     {

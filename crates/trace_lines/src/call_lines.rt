@@ -109,7 +109,6 @@ fn push_argument<X: Text>(text: &mut X, run: &Run<'_>)
 }
 
 /// Appends what the line of a call shows before the call is executed.
-///
 pub fn push_call_start<X: Text>(text: &mut X, run: &Run<'_>)
     ensures { X.pushed text.new
         ≡ more (X.pushed text.old) (call_start run.now.step (state_of run.now)) }
@@ -174,7 +173,6 @@ fn push_printed<X: Text>(text: &mut X, bytes: &[u8])
 }
 
 /// Appends what the line of a call shows after the call was executed: what it returned, from the registers, and the bytes that it sent.
-///
 pub fn push_call_end<X: Text>(text: &mut X, number: u8, regs: Regs, sent: &[u8])
     ensures { X.pushed text.new
         ≡ more (X.pushed text.old) (returned_text (returned_of number) regs ++ printed_text sent.now) }

@@ -1,8 +1,8 @@
 use Rattle.std.proofs.Common.{ap, sym, subst, ◌∙◌, ◌≡◌, get_or, slice_index, true, false, arith, ℕ}
-use Rattle.i8080.specs.Attempts.{AreReadable}
 use Rattle.i8080.specs.Opcodes.{decoded}
 use Rattle.i8080.specs.Operands.{byte_count}
 use Rattle.pagemem.specs.Known.{is_known}
+use Rattle.pagemem.specs.Learned.{AreKnown}
 use Rattle.pagemem.proofs.LearnedLemmas.{learned_by_learning}
 use Rattle.pagemem.proofs.Laws.{set_read}
 use Rattle.pagemem.proofs.known.Known.learn_opcode.Goals as goal
@@ -18,6 +18,6 @@ invariant_of-self-clause-learned c =
 pub returns-else-a-lt-SYSTEM_AREA-clause-learned : goal.returns-else-a-lt-SYSTEM_AREA-clause-learned
 returns-else-a-lt-SYSTEM_AREA-clause-learned c readable low = elim c.else-a-lt-SYSTEM_AREA.branch [
   | else-a-lt-SYSTEM_AREA-via-then-a-lt-SYSTEM_AREA+else-are_known w ↦ absurd (let e : false ≡ true = sym w.if-are_known.false
-      ∙ w.are_known.ensures.unknown (subst (λ (n : ℕ). AreReadable (is_known c.args.self.now) c.args.a n) (ap (λ b. byte_count (decoded b)) (sym c.byte-byte.ensures) ∙ sym w.byte_count.ensures.count) readable) in let no : ⊥ = cc in no)
+      ∙ w.are_known.ensures.unknown (subst (λ (n : ℕ). AreKnown (is_known c.args.self.now) c.args.a n) (ap (λ b. byte_count (decoded b)) (sym c.byte-byte.ensures) ∙ sym w.byte_count.ensures.count) readable) in let no : ⊥ = cc in no)
   | else-a-lt-SYSTEM_AREA-via-else-a-lt-SYSTEM_AREA w ↦ absurd (omega (arith, low, w.if-a-lt-SYSTEM_AREA.false))
 ]
