@@ -1,7 +1,7 @@
 -- The folders that words give, and why one is not found. (This project's own.)
-use Rattle.std.specs.Prelude.{◌≡◌, ◌≢◌, ◌<◌, ◌⊎◌, ℕ, List, [], ◌∷◌, ◌++◌, Option, Some, None, true, get_or, map, take, is_some, length}
+use Rattle.std.specs.Prelude.{◌≡◌, ◌≢◌, ◌<◌, ◌⊎◌, ℕ, Bool, List, [], ◌∷◌, ◌++◌, Option, Some, None, true, get_or, map, take, is_some, length}
 use Rattle.std.specs.Borrow.{Bor}
-use Rattle.std.specs.List.{Contains, filter}
+use Rattle.std.specs.List.{Contains, filter, list_any}
 use Rattle.command_words.specs.Clashes.{disk_options, files_options, out_options}
 use Rattle.command_words.specs.declared.clashes.Clash.{Clash}
 use Rattle.command_words.specs.declared.clashes.Clash.TheVariants.{SameFolder}
@@ -26,6 +26,10 @@ with_options options folders = map (λ drive. (get_or options drive [], get_or f
 -- All of them: first those of disks, then those of changed files, and then those of host files.
 unfoldable pub folders_of : Words → List Option'
 folders_of w = with_options disk_options w.disk ++ with_options out_options w.out ++ with_options files_options w.files
+
+-- Whether a drive has a disk.
+abbrev pub has_disks : Words → Bool
+has_disks w = list_any is_some w.disk
 
 -- An option is given: one of the first n.
 abbrev pub IsGiven : Words → ℕ → List ℕ → Type 0

@@ -4,6 +4,7 @@ ghost use Rattle.std.specs.Prelude.{◌≡◌, IfErr, IfOk, IfSome, map};
 ghost use Rattle.std.specs.List.{Contains};
 ghost use Rattle.folders.specs.Failures.{KeepsFiles};
 ghost use Rattle.folders.specs.Faults.{FailsBy, failure_paths};
+ghost use Rattle.disks.specs.Given as given;
 ghost use Rattle.disks.specs.Given.{AreGiven, IsFolderFault, folders_of, seen};
 
 use crate::ids::id_at;
@@ -54,8 +55,15 @@ fn option_of(found: &[Found], id: Id) -> Option<&'static str>
     None
 }
 
-/// Returns the first two options with the same folder, if it is a disk or changed files are written into it. A folder that is not there is
-/// the same as no other.
+/// Returns whether a drive has a disk.
+pub fn has_disks(words: &Words<'_>) -> bool
+    ensures { result ≡ given.has_disks words.now }
+{
+    words.disk.iter().any(|disk| disk.is_some())
+}
+
+/// Returns the first two options with the same folder, if it is a disk or changed files are written into it. Without a disk, a folder may be
+/// read and written. A folder that is not there is the same as no other.
 ///
 /// # Errors
 ///
@@ -75,7 +83,7 @@ pub fn same_folders<S: FileSystem>(
         let Some(folder) = folder else {
             continue;
         };
-        if at >= WRITTEN && found.is_empty() {
+        if at >= WRITTEN && !has_disks(words) {
             return Ok(None);
         }
         let Some(id) = id_at(system, folder)? else {

@@ -10,6 +10,6 @@ mod ids;
 mod locks;
 mod reports;
 
-pub use clashes::same_folders;
+pub use clashes::{has_disks, same_folders};
 pub use locks::lock_disks;
 pub use reports::{is_one_file, leads_to_written, may_be_written, report_taken};

@@ -10,7 +10,7 @@ use Rattle.folders.specs.declared.fault.Failure.TheVariants as failure
 use Rattle.faults.specs.declared.fault.Fault.{Fault}
 use Rattle.faults.specs.declared.fault.Fault.TheVariants.{Usage, BadEscape, NotText, CannotRead, CannotWrite, DiskUnchanged, Folders, Refused, Malformed, TooLong, RulePath, OutOfMemory}
 use Rattle.faults.specs.declared.fault.Message.{Message}
-use Rattle.faults.specs.declared.fault.Message.TheVariants.{Fixed, Made}
+use Rattle.faults.specs.declared.fault.Message.TheVariants.{Fixed, Made, Line}
 use Rattle.faults.specs.declared.tool.Tool.{Tool}
 use Rattle.faults.specs.declared.tool.Tool.TheVariants.{Cpmrun, Cpmdeps, Cpmtrace}
 use Rattle.mnemonics.specs.Mnemonics.{digits}
@@ -92,7 +92,8 @@ message_of tool OutOfMemory = message_line tool (codes "out of memory")
 -- The bytes of a message.
 abbrev pub bytes_of : Message → List ℕ
 bytes_of (Fixed before name after) = before.now ++ name.now ++ after.now
-bytes_of (Made text) = text.items
+bytes_of (Made text) = string_bytes text
+bytes_of (Line name text) = name.now ++ codes ": " ++ line (shown (string_bytes text))
 
 -- What was written of a text before an error: a prefix of it, if writing it or an allocation failed.
 abbrev pub BreaksText : List ℕ → Output → Output → Fault → Type 0

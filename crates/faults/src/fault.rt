@@ -1,9 +1,9 @@
 ghost use Rattle.std.specs.Prelude.{◌≡◌, IfOk, IfErr, string_bytes};
-ghost use Rattle.faults.specs.Faults.{ReportsFaultOrMemory, bytes_of, message_line, value_text};
+ghost use Rattle.faults.specs.Faults.{ReportsFaultOrMemory, bytes_of, value_text};
 ghost use Rattle.streams.specs.Pushing.{more};
 ghost use Rattle.streams.specs.Streams.{WritesOrFails};
 
-use crate::shown::message_line;
+use crate::shown::push_shown;
 use crate::tool::Tool;
 use folders::Failure;
 use std::alloc::{AllocError, Global};
@@ -92,8 +92,10 @@ const NO_MEMORY: &str = ": out of memory\n";
 enum Message<'s> {
     /// Three texts one after another, which need no memory.
     Fixed(&'s str, &'s str, &'s str),
-    /// One with a path, name or number in it.
-    Made(Vec<u8>),
+    /// One that was made.
+    Made(String),
+    /// A line with a path, name or number in it, after the name of the program.
+    Line(&'static str, String),
 }
 
 impl Message<'_> {
@@ -109,7 +111,13 @@ impl Message<'_> {
                 text.push(name.as_bytes());
                 text.push(after.as_bytes());
             }
-            Message::Made(message) => text.push(message.as_slice()),
+            Message::Made(message) => text.push(message.as_bytes()),
+            Message::Line(name, line) => {
+                text.push(name.as_bytes());
+                text.push(b": ");
+                push_shown(text, line.as_bytes());
+                text.push(b"\n");
+            }
         }
     }
 }
@@ -143,38 +151,27 @@ impl Fault<'_> {
             Fault::OutOfMemory => Ok(Message::Fixed("", name, NO_MEMORY)),
             Fault::BadEscape(text) => {
                 let mistake = "unknown escape after a backslash";
-                let text = value_text(alloc, text, "--typed <TEXT>", mistake)?;
-                Ok(Message::Made(text.into_bytes()))
+                Ok(Message::Made(value_text(alloc, text, "--typed <TEXT>", mistake)?))
             }
             Fault::CannotRead(path) => {
-                line_message(alloc, tool, format!(in alloc; "cannot read {path}")?)
+                Ok(Message::Line(name, format!(in alloc; "cannot read {path}")?))
             }
-            Fault::Folders(fault) => line_message(alloc, tool, format!(in alloc; "{fault}")?),
+            Fault::Folders(fault) => Ok(Message::Line(name, format!(in alloc; "{fault}")?)),
             Fault::Refused(number) => {
-                line_message(alloc, tool, format!(in alloc; "session refused {number}")?)
+                Ok(Message::Line(name, format!(in alloc; "session refused {number}")?))
             }
             Fault::Malformed(line) => {
-                line_message(alloc, tool, format!(in alloc; "line {line} is malformed")?)
+                Ok(Message::Line(name, format!(in alloc; "line {line} is malformed")?))
             }
             Fault::TooLong(line) => {
-                line_message(alloc, tool, format!(in alloc; "line {line} is too long")?)
+                Ok(Message::Line(name, format!(in alloc; "line {line} is too long")?))
             }
             Fault::RulePath(path) => {
-                line_message(
-                    alloc,
-                    tool,
-                    format!(in alloc; "a rule for make cannot have the path {path}")?,
-                )
+                let line = format!(in alloc; "a rule for make cannot have the path {path}")?;
+                Ok(Message::Line(name, line))
             }
         }
     }
-}
-
-// Returns the message with this line.
-fn line_message<'s>(alloc: Global, tool: Tool, line: String) -> Result<Message<'s>, AllocError>
-    ensures { IfOk result (λ message. bytes_of message ≡ message_line tool (string_bytes line)) }
-{
-    Ok(Message::Made(message_line(alloc, tool, line.as_str())?))
 }
 
 /// Returns the message for an option with a value that it cannot have, worded as `clap` words it.

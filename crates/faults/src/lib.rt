@@ -1,7 +1,7 @@
 //! The errors of the programs, with their statuses and messages.
 //!
 //! - `fault`: the errors
-//! - `shown`, `tool`: the lines of their messages; the programs whose names they begin with
+//! - `shown`, `tool`: texts with escapes for control characters; the programs whose names they begin with
 #![tactic(auto)]
 
 mod fault;
@@ -9,4 +9,5 @@ mod shown;
 mod tool;
 
 pub use fault::{Fault, report_fault, value_text};
+pub use shown::push_shown;
 pub use tool::Tool;

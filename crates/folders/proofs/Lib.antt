@@ -2,7 +2,9 @@ pub mod CaseLemmas
 pub mod EntryLemmas
 pub mod FaultLemmas
 pub mod FilesLemmas
+pub mod LeftLemmas
 pub mod ListingLemmas
 pub mod ReadLemmas
+pub mod SplitLemmas
 pub mod WriteLemmas
 pub mod WrittenFiles

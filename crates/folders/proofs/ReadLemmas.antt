@@ -1,7 +1,7 @@
 -- What is read of a file, and files that are read one after the other.
 use Rattle.std.proofs.Common.{◌≡◌, ◌≢◌, ℕ, ◌+◌, ◌<◌, ◌≤◌, List, length, take, Bool, true, false, is_some, Option, Some, None, IfSome, ◌⊎◌, inl, inr, refl, sym, ap, subst, ◌∙◌, slice_index, arith}
-use Rattle.std.specs.Prelude.{String, string_bytes}
-use Rattle.std.specs.List.{Contains}
+use Rattle.std.specs.Prelude.{String, map, string_bytes}
+use Rattle.std.specs.List.{Contains, filter}
 use Rattle.std.proofs.lemmas.List.{get_or_past}
 use Rattle.std.proofs.lemmas.Bool.Decides.{eqb_tells, leb_tells}
 use Rattle.std.specs.Borrow.{Bor}
@@ -21,6 +21,7 @@ use Rattle.folders.specs.Listings.{IsHostFile, ListsFolder}
 use Rattle.folders.specs.Folders.{AreFromFolders, AreFromFolder, HaveBytesOf, HasBytesOf, IsReadAs, ReadBelow, folder_of}
 use Rattle.folders.specs.DriveFolders.{HasNames}
 use Rattle.folders.specs.LetterCase.{prefers_lower}
+use Rattle.folders.specs.LeftNames.{is_left}
 use Rattle.folders.specs.declared.listing.Listing.{Listing}
 use Rattle.filenames.specs.Drives.{drive_number}
 use Rattle.folders.proofs.EntryLemmas.{drive_in}
@@ -139,12 +140,14 @@ folder_read {Z = Z} (Some stored) names drive folder listed duplicate before now
 pub names_of : (files : StoredFiles) (drive : ℕ) (folder : Path) (listing : Listing) → drive_number listing.drive ≡ drive → listing.duplicate ≡ None
     → IfSome files.bytes (λ stored. ListsFolder stored drive folder (files.names folder) listing.files listing.duplicate)
     → IfSome files.bytes (λ _. listing.lower ≡ prefers_lower drive (files.names folder))
+    → IfSome files.bytes (λ _. map string_bytes listing.left.items ≡ filter is_left (files.names folder))
     → IfSome files.bytes (λ stored. HasNames stored files.names drive folder listing)
-names_of files drive folder listing on one l w = by files.bytes l w where
+names_of files drive folder listing on one l w h = by files.bytes l w h where
   by : (o : Option FileBytes) → IfSome o (λ stored. ListsFolder stored drive folder (files.names folder) listing.files listing.duplicate)
-      → IfSome o (λ _. listing.lower ≡ prefers_lower drive (files.names folder)) → IfSome o (λ stored. HasNames stored files.names drive folder listing)
-  by None l w = tt
-  by (Some stored) l w = record { drive_is = on; lists = l; alone = one; lower = w }
+      → IfSome o (λ _. listing.lower ≡ prefers_lower drive (files.names folder)) → IfSome o (λ _. map string_bytes listing.left.items ≡ filter is_left (files.names folder))
+      → IfSome o (λ stored. HasNames stored files.names drive folder listing)
+  by None l w h = tt
+  by (Some stored) l w h = record { drive_is = on; lists = l; alone = one; lower = w; left = h }
 
 -- ---- the folders of the drives, one after another
 

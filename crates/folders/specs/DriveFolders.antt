@@ -1,20 +1,24 @@
 -- The folders of the drives, with the names of their files. (This project's profile.)
-use Rattle.std.specs.Prelude.{◌≡◌, ℕ, ◌<◌, IfSome, List, [], ◌∷◌, map, Option, Some, None, get_or, option_map}
+use Rattle.std.specs.Prelude.{◌≡◌, ℕ, ◌<◌, IfSome, List, [], ◌∷◌, map, Option, Some, None, get_or, option_map, string_bytes}
 use Rattle.std.specs.Borrow.{Bor}
+use Rattle.std.specs.List.{filter}
 use Rattle.filenames.specs.Drives.{drive_number}
 use Rattle.folders.specs.FileSystem.{FileBytes, Path, StoredFiles}
 use Rattle.folders.specs.Folders.{folder_of}
 use Rattle.folders.specs.LetterCase.{prefers_lower}
 use Rattle.folders.specs.Listings.{ListsFolder}
+use Rattle.folders.specs.LeftNames.{is_left}
 use Rattle.folders.specs.declared.drive_folder.DriveFolder.{DriveFolder}
 use Rattle.folders.specs.declared.listing.Listing.{Listing}
 
--- The names of the files in the folder of a drive, of which no two are those of one host file, and how new names are written.
+-- The names of the files in the folder of a drive, of which no two are those of one host file, how new names are written, and the names under
+-- which ended runs left new contents.
 pub record HasNames (stored : FileBytes) (names : Path → List Path) (drive : ℕ) (folder : Path) (listing : Listing) : Type 0 where
   pub drive_is : drive_number listing.drive ≡ drive
   pub lists : ListsFolder stored drive folder (names folder) listing.files listing.duplicate
   pub alone : listing.duplicate ≡ None
   pub lower : listing.lower ≡ prefers_lower drive (names folder)
+  pub left : map string_bytes listing.left.items ≡ filter is_left (names folder)
 
 -- The names in the folder of a drive, or nothing for a drive without a folder.
 abbrev pub ListsDrive : FileBytes → (Path → List Path) → ℕ → Option Path → Option Listing → Type 0

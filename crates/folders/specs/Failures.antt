@@ -28,4 +28,5 @@ ReportsPaths reported result old new = AddsPaths reported result old.failed new.
 pub record KeepsFiles {T E : Type 0} (reported : E → List Path) (result : Result T E) (old new : StoredFiles) : Type 0 where
   pub bytes : new.bytes ≡ old.bytes
   pub names : new.names ≡ old.names
+  pub special : new.special ≡ old.special
   pub failed : AddsPaths reported result old.failed new.failed

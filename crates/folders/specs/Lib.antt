@@ -5,6 +5,7 @@ pub mod Faults
 pub mod Listings
 pub mod Folders
 pub mod LetterCase
+pub mod LeftNames
 pub mod DriveFolders
 pub mod ChangedBytes
 pub mod Temporaries

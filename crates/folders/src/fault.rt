@@ -1,7 +1,8 @@
 ghost use Rattle.std.specs.Prelude.{◌≡◌, ◌+◌, ◌∷◌, [], string_bytes};
+ghost use Rattle.std.specs.Fmt.{WritesOnOk};
 ghost use Rattle.filenames.specs.Drives.{drive_number};
 ghost use Rattle.folders.specs.Failures.{io_paths};
-ghost use Rattle.folders.specs.Faults.{FailsBy, IsReadFault, IsWriteFault, failure_paths};
+ghost use Rattle.folders.specs.Faults.{FailsBy, IsReadFault, IsWriteFault, failure_paths, others_text};
 
 use filenames::{Drive, Name};
 use std::alloc::AllocError;
@@ -15,8 +16,9 @@ pub enum Fault {
     CannotRead(String),
     /// The file of this path could not be written.
     CannotWrite(String),
-    /// The file of the first path could not be moved there: its contents are in the file of the second path.
-    CannotMove(String, String),
+    /// The file of the first path could not be moved there: its contents are in the file of the second path, and those of other files,
+    /// which were to be moved later, in the files of these paths.
+    CannotMove(String, String, Vec<String>),
     /// What is at this path is not what was loaded from it.
     Changed(String),
     /// What is at this path is no regular file.
@@ -27,6 +29,10 @@ pub enum Fault {
     NoFolder(Name),
     /// Two files in a folder have this name, the first such by its key.
     TwoFiles(Name),
+    /// The folder of this path would have more files than a drive can have.
+    TooManyFiles(String),
+    /// Two files in a folder would have this name.
+    WouldBeTwo(Name),
     /// The host file of this name is refused, with the number of `FilesError`: 1 for more than 8,388,608 bytes, 2 for a 513th
     /// file.
     Refused(Name, u8),
@@ -62,8 +68,9 @@ impl fmt::Display for Fault {
         match self {
             Fault::CannotRead(path) => write!(f, "cannot read {path}"),
             Fault::CannotWrite(path) => write!(f, "cannot write {path}"),
-            Fault::CannotMove(path, other) => {
-                write!(f, "cannot write {path}: its contents are in {other}")
+            Fault::CannotMove(path, other, others) => {
+                write!(f, "cannot write {path}: its contents are in {other}")?;
+                write_others(f, others.as_slice())
             }
             Fault::Changed(path) => write!(f, "cannot write {path}: it was changed meanwhile"),
             Fault::Irregular(path) => write!(f, "cannot write {path}: it is no regular file"),
@@ -78,9 +85,25 @@ impl fmt::Display for Fault {
                 write!(f, "cannot write {name}: drive {letter} has no folder")
             }
             Fault::TwoFiles(name) => write!(f, "two files are {name}"),
+            Fault::TooManyFiles(path) => write!(f, "{path} would have more than 512 files"),
+            Fault::WouldBeTwo(name) => write!(f, "two files would be {name}"),
             Fault::Refused(name, number) => write!(f, "file {name} refused {number}"),
         }
     }
+}
+
+// Writes the end of a message that names these paths too.
+fn write_others<W: fmt::Write>(f: &mut fmt::Formatter<W>, paths: &[String]) -> fmt::Result
+    ensures { WritesOnOk W.write_str_gives f.old result (others_text paths.now) f.new }
+{
+    let Some((first, others)) = paths.split_first() else {
+        return Ok(());
+    };
+    write!(f, ", those of other files in {first}")?;
+    for path in others {
+        write!(f, ", {path}")?;
+    }
+    Ok(())
 }
 
 // Returns the letter of a drive.

@@ -1,6 +1,6 @@
 // The files of a machine, by their paths.
 
-ghost use Rattle.std.specs.Prelude.{◌≡◌, ◌<◌, ◌∷◌, ℕ, List, [], None, IfOk, OnOk, OnErr, IfSome, map, string_bytes};
+ghost use Rattle.std.specs.Prelude.{◌≡◌, ◌<◌, ◌∷◌, ℕ, List, [], None, false, true, IfErr, IfOk, OnOk, OnErr, IfSome, is_ok, map, string_bytes};
 ghost use Rattle.std.specs.FinMap.{insert, remove};
 ghost use Rattle.std.specs.Io.KnownBytes.{Appends};
 ghost use Rattle.folders.specs.Failures.{AddsPaths, KeepsFiles, ReportsPaths, io_paths};
@@ -10,7 +10,7 @@ ghost use Rattle.streams.specs.Trails.{paths};
 
 use crate::system_output::{Destination, SystemOutput};
 use std::alloc::Global;
-use std::fs::{File, Metadata, OpenFile, OpenOptions, Permissions, read_dir};
+use std::fs::{File, Metadata, OpenFile, OpenOptions, Permissions, TryLockError, read_dir};
 use std::io::{BufWriter, ErrorKind, Read, Write};
 use std::os::unix::fs::{FileTypeExt, MetadataExt, OpenOptionsExt};
 use std::rt::{Files, Stderr, Stdout};
@@ -78,6 +78,7 @@ pub trait FileSystem {
         requires { 0 < (Self.Input.input input.now).failures }
         ensures bytes { (files self.new).bytes ≡ (files self.old).bytes }
         ensures names { (files self.new).names ≡ (files self.old).names }
+        ensures special { (files self.new).special ≡ (files self.old).special }
         ensures failed { (files self.new).failed ≡ path.now ∷ (files self.old).failed };
 
     /// Opens what is at a path to write it piece by piece: a file, which is made or emptied, or what a link, a device or a pipe leads to. If
@@ -85,15 +86,17 @@ pub trait FileSystem {
     fn create(&mut self, path: &str) -> io::Result<Self::Output>
         ensures opened { IfOk result
             (λ output. IsNewOutput (files self.old).bytes (Self.Output.output output)) }
-        ensures made { OnOk result (HasBytes path.now [] (files self.old).bytes (files self.new).bytes) }
+        ensures made { OnOk result (HasBytes path.now [] (files self.old) (files self.new)) }
         ensures err { OnErr result ((files self.new).bytes ≡ (files self.old).bytes) }
+        ensures special { (files self.new).special ≡ (files self.old).special }
         ensures failed { ReportsPaths (io_paths path.now) result (files self.old) (files self.new) };
 
     /// Closes what was opened to be written. It is an error if a write failed. A contract sees what was written from then on.
     fn close(&mut self, path: &str, output: Self::Output) -> io::Result<()>
         ensures whole { OnOk result ((Self.Output.output output).failures ≡ 0) }
         ensures written { HasWritten path.now (Self.Output.output output).holds
-            (files self.old).bytes (files self.new).bytes }
+            (files self.old) (files self.new) }
+        ensures special { (files self.new).special ≡ (files self.old).special }
         ensures failed { ReportsPaths (io_paths path.now) result (files self.old) (files self.new) };
 
     /// Reads what is at a path, which may be a pipe or a device: all of its bytes, or its first `most` if it has more.
@@ -114,20 +117,30 @@ pub trait FileSystem {
 
     /// Returns what is at a path; a link is no regular file.
     fn kind(&mut self, path: &str) -> io::Result<Kind>
-        ensures is { IfOk result (λ kind. IsKindAt (files self.old).bytes path.now kind) }
+        ensures is { IfOk result (λ kind. IsKindAt (files self.old) path.now kind) }
+        ensures unchanged { KeepsFiles (io_paths path.now) result (files self.old) (files self.new) };
+
+    /// Returns whether a path leads to standard output or standard error: then what is written there goes to this stream. A contract sees
+    /// such a path as one with no regular file.
+    fn is_stream(&mut self, path: &str) -> io::Result<bool>
+        ensures special { IfOk result (λ is. is ≡ true → IsKindAt (files self.old) path.now Kind.Other) }
         ensures unchanged { KeepsFiles (io_paths path.now) result (files self.old) (files self.new) };
 
     /// Returns which regular file or folder is at a path, or at the end of a link, or `None` if neither is there.
     fn id(&mut self, path: &str) -> io::Result<Option<Id>>
         ensures unchanged { KeepsFiles (io_paths path.now) result (files self.old) (files self.new) };
 
-    /// Locks a folder. While another program has it locked, this waits.
+    /// Locks a folder. While another program has it locked, this waits. If the file system has no locks, the lock holds nothing.
     fn lock(&mut self, folder: &str) -> io::Result<Self::Lock>
         ensures unchanged { KeepsFiles (io_paths folder.now) result (files self.old) (files self.new) };
 
-    /// Makes sure that the names in a folder outlast a power failure.
-    fn sync(&mut self, folder: &str) -> io::Result<()>
+    /// Locks a folder, or returns `None` if another program has it locked.
+    fn try_lock(&mut self, folder: &str) -> io::Result<Option<Self::Lock>>
         ensures unchanged { KeepsFiles (io_paths folder.now) result (files self.old) (files self.new) };
+
+    /// Makes the names in a folder outlast a power failure, if its file system can do that. Returns false if it failed.
+    fn sync(&mut self, folder: &str) -> bool
+        ensures unchanged { files self.new ≡ files self.old };
 
     /// Returns whether nothing is at a path at which the file of a target is to be written first. The path that an error adds is the
     /// target, which is then not written.
@@ -151,25 +164,21 @@ pub trait FileSystem {
             (AddsOnly (path.now ∷ []) (files self.old).bytes (files self.new).bytes) }
         ensures failed { ReportsPaths (io_paths target.now) result (files self.old) (files self.new) };
 
-    /// Writes to what is at a path and is no regular file, such as a device or a pipe, or what a link leads to.
-    fn write_into<C: Contents>(&mut self, path: &str, contents: &C) -> io::Result<()>
-        ensures bytes { IsFree path.now (files self.old).bytes
-            → (files self.new).bytes ≡ (files self.old).bytes }
-        ensures failed { ReportsPaths (io_paths path.now) result (files self.old) (files self.new) };
-
     /// Moves the file of one path to another, replacing what is there. The path that an error adds is the second, as it is not
-    /// written.
+    /// written. No error says that an allocation failed.
     fn rename(&mut self, from: &str, to: &str) -> io::Result<()>
         ensures moved { OnOk result
             (Becomes (files self.old).bytes (files self.new).bytes (files_after_rename from.now to.now)) }
         ensures err { OnErr result ((files self.new).bytes ≡ (files self.old).bytes) }
+        ensures named { IfErr result (λ error. io_paths to.now error ≡ to.now ∷ []) }
         ensures failed { ReportsPaths (io_paths to.now) result (files self.old) (files self.new) };
 
-    /// Removes a file.
+    /// Removes a file. No error says that an allocation failed.
     fn remove(&mut self, path: &str) -> io::Result<()>
         ensures removed { OnOk result (Becomes (files self.old).bytes (files self.new).bytes
             (λ stored. remove stored path.now)) }
         ensures err { OnErr result ((files self.new).bytes ≡ (files self.old).bytes) }
+        ensures named { IfErr result (λ error. io_paths path.now error ≡ path.now ∷ []) }
         ensures failed { ReportsPaths (io_paths path.now) result (files self.old) (files self.new) };
 
     /// Removes a file if there is one and it can be removed. It is no failure if not.
@@ -199,6 +208,35 @@ fn read_first<T: Read + Drop>(alloc: Global, source: T, most: u64) -> io::Result
     let mut bytes = Vec::new(alloc);
     source.take(most).read_to_end(&mut bytes)?;
     Ok(bytes)
+}
+
+// Returns an answer with an error of another kind if an allocation failed.
+fn without_memory(answer: io::Result<()>) -> io::Result<()>
+    ensures same { is_ok result ≡ is_ok answer }
+    ensures named { IfErr result (λ error. (path : List ℕ) → io_paths path error ≡ path ∷ []) }
+{
+    match answer {
+        Err(error) if error.kind() == ErrorKind::OutOfMemory => {
+            Err(io::Error::from(ErrorKind::Other))
+        }
+        answer => answer,
+    }
+}
+
+// The number of ENOLCK, an error of a file system that has no locks.
+const NO_LOCKS: i32 = 37;
+
+// Returns whether an error says that a file system has no locks.
+fn has_no_locks(error: &io::Error) -> bool {
+    error.kind() == ErrorKind::Unsupported || error.raw_os_error() == Some(NO_LOCKS)
+}
+
+// Returns whether an error says that a file system cannot sync a folder.
+fn has_no_sync(error: &io::Error) -> bool {
+    matches!(
+        error.kind(),
+        ErrorKind::Unsupported | ErrorKind::InvalidInput
+    )
 }
 
 // Returns which file, folder, device or pipe was found.
@@ -286,13 +324,30 @@ impl<R: Files<File = File> + AllocGlobal + Clone + Drop> SystemFiles<'_, R> {
         }
     }
 
-    fn locked(&self, folder: &str) -> io::Result<File> {
-        if !fs::metadata(self.rt, folder)?.is_dir() {
+    fn folder_at(&self, path: &str) -> io::Result<File> {
+        if !fs::metadata(self.rt, path)?.is_dir() {
             return Err(io::Error::from(ErrorKind::NotADirectory));
         }
-        let opened = fs::open(self.rt, folder)?;
-        opened.lock()?;
-        Ok(opened)
+        fs::open(self.rt, path)
+    }
+
+    fn locked(&self, folder: &str) -> io::Result<Option<File>> {
+        let opened = self.folder_at(folder)?;
+        match opened.lock() {
+            Ok(()) => Ok(Some(opened)),
+            Err(error) if has_no_locks(&error) => Ok(None),
+            Err(error) => Err(error),
+        }
+    }
+
+    fn locked_at_once(&self, folder: &str) -> io::Result<Option<Option<File>>> {
+        let opened = self.folder_at(folder)?;
+        match opened.try_lock() {
+            Ok(()) => Ok(Some(Some(opened))),
+            Err(TryLockError::WouldBlock) => Ok(None),
+            Err(TryLockError::Error(error)) if has_no_locks(&error) => Ok(Some(None)),
+            Err(TryLockError::Error(error)) => Err(error),
+        }
     }
 
     fn read_from(&self, path: &str, most: u64) -> io::Result<Vec<u8>> {
@@ -308,7 +363,10 @@ impl<R: Files<File = File> + AllocGlobal + Clone + Drop> SystemFiles<'_, R> {
     }
 
     fn synced(&self, folder: &str) -> io::Result<()> {
-        fs::open(self.rt, folder)?.sync_all()
+        match fs::open(self.rt, folder)?.sync_all() {
+            Err(error) if has_no_sync(&error) => Ok(()),
+            synced => synced,
+        }
     }
 
     // Returns the permissions of the regular file at a path, if there is one.
@@ -343,7 +401,7 @@ impl<R: Files<File = File> + AllocGlobal + Clone + Drop> SystemFiles<'_, R> {
         filled
     }
 
-    // Writes contents to a new file, and gives it the permissions of the file that it replaces.
+    // Writes contents to a new file, and gives it the permissions of the file that it replaces. Only a sync reports an error of closing it.
     fn fill<C: Contents>(
         &self,
         file: File,
@@ -352,10 +410,11 @@ impl<R: Files<File = File> + AllocGlobal + Clone + Drop> SystemFiles<'_, R> {
         durable: bool,
     ) -> io::Result<()> {
         let written = write_whole(self.rt.alloc(), file, contents)?;
+        let replaces = permissions.is_some();
         if let Some(permissions) = permissions {
             written.set_permissions(permissions)?;
         }
-        if durable {
+        if durable || replaces {
             written.sync_all()?;
         }
         Ok(())
@@ -366,12 +425,6 @@ impl<R: Files<File = File> + AllocGlobal + Clone + Drop> SystemFiles<'_, R> {
         let mut options = OpenOptions::new();
         options.write(true).create(true).truncate(true);
         options.open(self.rt, path)
-    }
-
-    fn write_through<C: Contents>(&self, path: &str, contents: &C) -> io::Result<()> {
-        let opened = self.open_to_write(path)?;
-        write_whole(self.rt.alloc(), opened, contents)?;
-        Ok(())
     }
 
     // Returns which file, folder, device or pipe is at a path, or at the end of a link, or `None` if nothing is there.
@@ -420,9 +473,10 @@ impl<R: Files<File = File> + AllocGlobal + Clone + Drop> FileSystem for SystemFi
 
     type Output = SystemOutput;
 
-    type Lock = File;
+    type Lock = Option<File>;
 
-    ghost files = { λ system. record { bytes = None; names = λ _. []; failed = paths system.failed } };
+    ghost files = { λ system.
+        record { bytes = None; names = λ _. []; special = λ _. false; failed = paths system.failed } };
 
     fn alloc(&self) -> Global {
         self.rt.alloc()
@@ -471,19 +525,28 @@ impl<R: Files<File = File> + AllocGlobal + Clone + Drop> FileSystem for SystemFi
         Ok(self.note(target, kind)? == Kind::Absent)
     }
 
+    fn is_stream(&mut self, path: &str) -> io::Result<bool> {
+        let stream = self.stream_at(path);
+        Ok(self.note(path, stream)?.is_some())
+    }
+
     fn id(&mut self, path: &str) -> io::Result<Option<Id>> {
         let id = self.id_of(path);
         self.note(path, id)
     }
 
-    fn lock(&mut self, folder: &str) -> io::Result<File> {
+    fn lock(&mut self, folder: &str) -> io::Result<Option<File>> {
         let locked = self.locked(folder);
         self.note(folder, locked)
     }
 
-    fn sync(&mut self, folder: &str) -> io::Result<()> {
-        let synced = self.synced(folder);
-        self.note(folder, synced)
+    fn try_lock(&mut self, folder: &str) -> io::Result<Option<Option<File>>> {
+        let locked = self.locked_at_once(folder);
+        self.note(folder, locked)
+    }
+
+    fn sync(&mut self, folder: &str) -> bool {
+        self.synced(folder).is_ok()
     }
 
     fn write_new<C: Contents>(
@@ -497,18 +560,13 @@ impl<R: Files<File = File> + AllocGlobal + Clone + Drop> FileSystem for SystemFi
         self.note(target, written)
     }
 
-    fn write_into<C: Contents>(&mut self, path: &str, contents: &C) -> io::Result<()> {
-        let written = self.write_through(path, contents);
-        self.note(path, written)
-    }
-
     fn rename(&mut self, from: &str, to: &str) -> io::Result<()> {
-        let renamed = fs::rename(self.rt, from, to);
+        let renamed = without_memory(fs::rename(self.rt, from, to));
         self.note(to, renamed)
     }
 
     fn remove(&mut self, path: &str) -> io::Result<()> {
-        let removed = fs::remove_file(self.rt, path);
+        let removed = without_memory(fs::remove_file(self.rt, path));
         self.note(path, removed)
     }
 

@@ -1,9 +1,13 @@
 // Names of files in a folder, and their paths.
 
-ghost use Rattle.std.specs.Prelude.{◌≡◌, ◌++◌, codes, IfOk, IfSome, slice_index, string_bytes};
+ghost use Rattle.std.specs.Prelude.{◌≡◌, ◌<◌, ◌^◌, ◌++◌, ℕ, List, true, codes, is_some, IfOk, IfSome, slice_index, string_bytes};
 ghost use Rattle.filenames.specs.Drives.{drive_number};
 ghost use Rattle.folders.specs.FolderNames.{key_in, folder_name, needs_slash, path_text};
-ghost use Rattle.folders.specs.Temporaries.{IsTemporaryOf, suffix};
+ghost use Rattle.std.specs.Char.{is_ascii_digit};
+ghost use Rattle.std.specs.List.{list_all};
+ghost use Rattle.std.specs.Path.{rsplit_once};
+ghost use Rattle.folders.specs.LeftNames.{before_number, is_left, is_number};
+ghost use Rattle.folders.specs.Temporaries.{IsTemporaryOf, short_name, suffix, temporary_name};
 
 use filenames::{Drive, Name};
 use std::alloc::{AllocError, Global};
@@ -53,17 +57,75 @@ fn temporary_in(alloc: Global, folder: &str, name: &str, suffix: &str) -> Result
     Ok(path)
 }
 
+// The most bytes of a name to which more are added. A name in a folder can have 255.
+const LONGEST: usize = 200;
+
+// Returns the name of a file, or another for one that is so long that no text could be added.
+fn short_name(name: &str) -> &str
+    ensures { result.now ≡ short_name name.now }
+{
+    if name.len() > LONGEST { "cpmrun" } else { name }
+}
+
 /// Returns a path at which the file of a path can first be written: in the same folder, with a `.` before its name and `.new` after it, or
-/// `.new.` and the number if that is not 0. No host file has this name on any drive, as it begins with a `.`.
+/// `.new.` and the number if that is not 0. The file of a long name is first written as that of the name `cpmrun`. No host file has such a
+/// name on any drive, as it begins with a `.`.
 pub fn temporary_path(alloc: Global, path: &str, number: u32) -> Result<String, AllocError>
     ensures { IfOk result (λ s. IsTemporaryOf path.now (string_bytes s)) }
 {
     let suffix = suffix(alloc, number)?;
     match path.rsplit_once('/') {
-        Some((folder, name)) => temporary_in(alloc, folder, name, suffix.as_str()),
-        None => format!(in alloc; ".{path}{suffix}"),
+        Some((folder, name)) => temporary_in(alloc, folder, short_name(name), suffix.as_str()),
+        None => {
+            let name = short_name(path);
+            format!(in alloc; ".{name}{suffix}")
+        }
     }
 }
+
+// Returns whether all bytes are decimal digits.
+fn are_digits(text: &[u8]) -> bool
+    ensures { result ≡ list_all is_ascii_digit text.now }
+{
+    text.iter().all(|byte| byte.is_ascii_digit())
+}
+
+// Returns whether a text is one or more decimal digits.
+fn is_number(text: &str) -> bool
+    ensures { result ≡ is_number text.now }
+{
+    !text.is_empty() && are_digits(text.as_bytes())
+}
+
+// Returns a name without the `.` and the number at its end, if there is one.
+fn before_number(name: &str) -> &str
+    ensures { result.now ≡ before_number name.now (rsplit_once 46 name.now) }
+{
+    match name.rsplit_once('.') {
+        Some((front, last)) if is_number(last) => front,
+        _ => name,
+    }
+}
+
+/// Returns whether a run that ended early can have left new contents of a file under a name: `.NAME.new`, or that with a `.` and a number
+/// after it, for the valid name of a file.
+pub fn is_left_name(name: &str) -> bool
+    ensures { result ≡ is_left name.now }
+{
+    let Some(rest) = name.strip_prefix('.') else {
+        return false;
+    };
+    match before_number(rest).rsplit_once('.') {
+        Some((file, last)) => last == "new" && name_in_folder(Drive::A, file).is_some(),
+        None => false,
+    }
+}
+
+/// The new contents of a file with a valid name are first written under a name that is listed if the run ends early.
+pub fn temporary_names_are_left()
+    ensures { (name : List ℕ) (number : ℕ) → number < 2 ^ 32
+        → is_some (key_in 0 name) ≡ true → is_left (temporary_name name number) ≡ true }
+{}
 
 /// Returns the path of a file in a folder: the folder as given, a `/` unless the folder ends with one or is empty, and the file's
 /// name.

@@ -24,8 +24,10 @@ pub use contents::Written;
 pub use drive_folder::DriveFolder;
 pub use fault::{Failure, Fault, read_failure, write_failure};
 pub use file_system::{Contents, FileSystem, Id, Kind, SystemFiles};
-pub use folder_names::{file_name, name_in_folder, path_in, temporary_path};
+pub use folder_names::{
+    file_name, is_left_name, name_in_folder, path_in, temporary_names_are_left, temporary_path,
+};
 pub use listing::Listing;
 pub use places::Places;
-pub use reading::{MOST_READ, ReadFolders, read_folder, read_folders};
+pub use reading::{MOST_READ, ReadFolders, host_file, names_in, read_folder, read_folders};
 pub use system_output::SystemOutput;

@@ -24,6 +24,8 @@ pub struct Listing {
     pub duplicate: Option<Name>,
     /// Whether new names are in lower case, as most names of the folder are.
     pub lower: bool,
+    /// The names in the folder under which a run that ended early left new contents.
+    pub left: Vec<String>,
     ghost names: { (k : List ℕ) → finmap.contains_key files k ≡ true → is_sayable k ≡ true },
     ghost on_drive: { (k : List ℕ) → finmap.contains_key files k ≡ true
         → slice_index k 0 ≡ drive_number drive },
@@ -34,9 +36,10 @@ pub struct Listing {
 
 impl Listing {
     /// Returns a listing with no file. Allocates nothing.
-    pub fn new(alloc: Global, drive: Drive, lower: bool) -> Listing
+    pub fn new(alloc: Global, drive: Drive, lower: bool, left: Vec<String>) -> Listing
         ensures drive { result.drive ≡ drive }
         ensures lower { result.lower ≡ lower }
+        ensures left { result.left ≡ left }
         ensures files { result.files ≡ finmap.empty }
         ensures duplicate { result.duplicate ≡ None }
     {
@@ -45,6 +48,7 @@ impl Listing {
             files: KeyMap::new(alloc),
             duplicate: None,
             lower,
+            left,
         }
     }
 
@@ -54,6 +58,7 @@ impl Listing {
         requires named { key_in (slice_index name.now 0) (string_bytes file) ≡ Some name.now }
         ensures drive { self.new.drive ≡ self.old.drive }
         ensures lower { self.new.lower ≡ self.old.lower }
+        ensures left { self.new.left ≡ self.old.left }
         ensures once { OnOk result (ListsOnce name.now file
             self.old.files self.old.duplicate self.new.files self.new.duplicate) }
         ensures again { OnOk result (ListsAgain name.now

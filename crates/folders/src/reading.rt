@@ -11,15 +11,18 @@ ghost use Rattle.folders.specs.Folders.{AreFromFolders, AreFromFolder, FailsFile
 ghost use Rattle.folders.specs.DriveFolders.{AreListings, HasNames, ListsDrive};
 ghost use Rattle.folders.specs.LetterCase.{prefers_lower};
 ghost use Rattle.folders.specs.Listings.{Finds, ListsFolder};
+ghost use Rattle.folders.specs.LeftNames.{is_left};
+ghost use Rattle.std.specs.List.{filter};
 
 use crate::fault::{Failure, Fault, read_failure};
 use crate::file_system::{FileSystem, Kind};
-use crate::folder_names::{name_in_folder, path_in};
+use crate::folder_names::{is_left_name, name_in_folder, path_in};
 use crate::letter_case::prefers_lower;
 use crate::listing::Listing;
 use filenames::{Drive, Key, Name};
 use hostfiles::host::FILE_LIMIT;
 use hostfiles::{FilesError, HostFiles};
+use std::alloc::{AllocError, Global};
 
 /// The largest number of bytes that are read of a file: one more than a host file can have, so that a longer one is refused and
 /// not read on.
@@ -39,8 +42,8 @@ fn set(files: &mut HostFiles, name: Name, bytes: &[u8]) -> Result<(), Failure>
     }
 }
 
-// Returns the name of the host file for a file of this name in a drive's folder, if it is one: a regular file and not a link.
-fn host_file<S: FileSystem>(
+/// Returns the name of the host file for a file of this name in a drive's folder, if it is one: a regular file and not a link.
+pub fn host_file<S: FileSystem>(
     system: &mut S,
     drive: Drive,
     folder: &str,
@@ -75,6 +78,7 @@ fn add_file<S: FileSystem>(
 ) -> Result<(), Failure>
     ensures drive { listing.new.drive ≡ listing.old.drive }
     ensures lower { listing.new.lower ≡ listing.old.lower }
+    ensures left { listing.new.left ≡ listing.old.left }
     ensures lists { OnOk result (IfSome (S.files system.old).bytes (λ stored. (names : List (List ℕ))
         → ListsFolder stored
         (drive_number listing.old.drive) folder.now names listing.old.files listing.old.duplicate
@@ -92,8 +96,8 @@ fn add_file<S: FileSystem>(
     Ok(())
 }
 
-// Returns the names in a folder.
-fn names_in<S: FileSystem>(system: &mut S, folder: &str) -> Result<Vec<String>, Failure>
+/// Returns the names in a folder.
+pub fn names_in<S: FileSystem>(system: &mut S, folder: &str) -> Result<Vec<String>, Failure>
     ensures names { IfOk result (λ names. IfSome (S.files system.old).bytes (λ _.
         map string_bytes names.items ≡ (S.files system.old).names folder.now)) }
     ensures fault { IfErr result (FailsBy (IsReadFault folder.now)) }
@@ -106,6 +110,20 @@ fn names_in<S: FileSystem>(system: &mut S, folder: &str) -> Result<Vec<String>, 
     }
 }
 
+// Returns the names under which ended runs left new contents, among these.
+fn left_names(alloc: Global, names: &[String]) -> Result<Vec<String>, AllocError>
+    ensures { IfOk result
+        (λ left. map string_bytes left.items ≡ filter is_left (map string_bytes names.now)) }
+{
+    let mut left = Vec::new(alloc);
+    for name in names {
+        if is_left_name(name.as_str()) {
+            left.push(String::from_str(alloc, name.as_str())?)?;
+        }
+    }
+    Ok(left)
+}
+
 // Lists the host files among these names in the folder of a drive.
 fn list_names<S: FileSystem>(
     system: &mut S,
@@ -116,6 +134,8 @@ fn list_names<S: FileSystem>(
     ensures drive { IfOk result (λ listing. listing.drive ≡ drive) }
     ensures lower { IfOk result
         (λ listing. listing.lower ≡ prefers_lower (drive_number drive) (map string_bytes names.now)) }
+    ensures left { IfOk result
+        (λ listing. map string_bytes listing.left.items ≡ filter is_left (map string_bytes names.now)) }
     ensures lists { IfOk result (λ listing. IfSome (S.files system.old).bytes (λ stored.
         ListsFolder stored (drive_number drive) folder.now (map string_bytes names.now)
         listing.files listing.duplicate)) }
@@ -123,7 +143,8 @@ fn list_names<S: FileSystem>(
         (FailsName (map string_bytes names.now) (drive_number drive) folder.now)) }
     ensures unchanged { KeepsFiles failure_paths result (S.files system.old) (S.files system.new) }
 {
-    let mut listing = Listing::new(system.alloc(), drive, prefers_lower(drive, names));
+    let left = left_names(system.alloc(), names)?;
+    let mut listing = Listing::new(system.alloc(), drive, prefers_lower(drive, names), left);
     for name in names {
         add_file(system, folder, name.as_str(), &mut listing)?;
     }
@@ -135,6 +156,8 @@ fn list<S: FileSystem>(system: &mut S, drive: Drive, folder: &str) -> Result<Lis
     ensures drive { IfOk result (λ listing. listing.drive ≡ drive) }
     ensures lower { IfOk result (λ listing. IfSome (S.files system.old).bytes (λ _.
         listing.lower ≡ prefers_lower (drive_number drive) ((S.files system.old).names folder.now))) }
+    ensures left { IfOk result (λ listing. IfSome (S.files system.old).bytes (λ _.
+        map string_bytes listing.left.items ≡ filter is_left ((S.files system.old).names folder.now))) }
     ensures lists { IfOk result (λ listing. IfSome (S.files system.old).bytes (λ stored.
         ListsFolder stored (drive_number drive) folder.now ((S.files system.old).names folder.now)
         listing.files listing.duplicate)) }

@@ -8,7 +8,7 @@ use Rattle.std.proofs.lemmas.List.Elements.{All-from_recursion, All-push}
 use Rattle.std.proofs.lemmas.Option.{get_or_from_slice_get, slice_get_within}
 use Rattle.std.proofs.lemmas.Slice.Eq.{bytes_eq-Decides}
 use Rattle.folders.specs.FileSystem.{Path, FileBytes}
-use Rattle.plan.specs.Plans.{AreApart, AreAsExpected, IsApartFrom, IsAsExpected, IsNoTemporary, is_at, is_first_at, path_of}
+use Rattle.plan.specs.Plans.{AreApart, AreAsExpected, IsAsExpected, IsNoTemporary, is_at, is_first_at, path_of}
 use Rattle.plan.specs.declared.deed.Deed.{Deed}
 
 -- ---- a test that no item passes
@@ -35,6 +35,9 @@ apart_bytes a b ne = by (bytes_eq a b) refl where
   by true e = absurd (ne ((bytes_eq-Decides a b).0 e))
   by false e = e
 
+pub apart_path : (path temporary : Path) → path ≢ temporary → bytes_eq temporary path ≡ false
+apart_path path temporary ne = apart_bytes temporary path (λ e. ne (sym e))
+
 module _ {C : Type 0} where
   -- One more deed, whose temporary path is apart from the paths, and whose path is apart from the temporary ones.
   apart_push : (deeds : List (Deed C)) (d : Deed C) → AreApart deeds → IsNoTemporary (path_of d) deeds → All (λ e. is_first_at (path_of e) d ≡ false) deeds
@@ -49,17 +52,20 @@ module _ {C : Type 0} where
   pushed true deeds new d is apart own others itself = subst AreApart (sym is) (apart_push deeds d apart own others itself)
   pushed false deeds new d is apart own others itself = subst AreApart (sym is) apart
 
+  -- A path that is no temporary one, and not that of one more deed.
+  pub pushed_apart : (ok : Bool) (deeds new : List (Deed C)) (d : Deed C) (path : Path) → new ≡ cond ok (deeds ++ d ∷ []) deeds → IsNoTemporary path deeds
+      → is_first_at path d ≡ false → IsNoTemporary path new
+  pushed_apart true deeds new d path is others this = subst (IsNoTemporary path) (sym is) (All-push (λ e. is_first_at path e ≡ false) deeds d others this)
+  pushed_apart false deeds new d path is others this = subst (IsNoTemporary path) (sym is) others
+
   turned : (temporary : Path) (deeds : List (Deed C)) → AllByRecursion (λ e. is_at temporary e ≡ false) deeds → AllByRecursion (λ e. bytes_eq temporary (path_of e) ≡ false) deeds
   turned t [] h = tt
   turned t (e ∷ deeds) h = (apart_bytes t (path_of e) (λ same. differ (path_of e) t h.0 (sym same)), turned t deeds h.1)
 
   -- The temporary path of a deed that is put is no path of the others.
-  pub apart_from : (deeds : List (Deed C)) (path temporary : Path) → IsApartFrom deeds path temporary → All (λ e. bytes_eq temporary (path_of e) ≡ false) deeds
-  apart_from deeds path temporary a =
-      All-from_recursion (λ e. bytes_eq temporary (path_of e) ≡ false) deeds (turned temporary deeds (none_passes (is_at temporary) deeds a.others))
-
-  pub apart_own : (deeds : List (Deed C)) (path temporary : Path) → IsApartFrom deeds path temporary → bytes_eq temporary path ≡ false
-  apart_own deeds path temporary a = apart_bytes temporary path (λ e. a.own (sym e))
+  pub apart_from : (deeds : List (Deed C)) (temporary : Path) → list_any (is_at temporary) deeds ≡ false → All (λ e. bytes_eq temporary (path_of e) ≡ false) deeds
+  apart_from deeds temporary none =
+      All-from_recursion (λ e. bytes_eq temporary (path_of e) ≡ false) deeds (turned temporary deeds (none_passes (is_at temporary) deeds none))
 
   -- One more deed is as expected.
   pub one_expected : (files : Option FileBytes) (deeds : List (Deed C)) (n : ℕ) (d : Deed C) → n < length deeds → d ≡ get_or deeds n d

@@ -1,7 +1,7 @@
 -- Deeds that are prepared, one after the other.
 use Rattle.std.proofs.Common.{◌≡◌, ◌⊎◌, inl, inr, ℕ, ◌+◌, ◌<◌, List, [], ◌∷◌, ◌++◌, length, get_or, take, drop, Contains, Option, Some, None, refl, sym, ap, subst, ◌∙◌, arith}
 use Rattle.std.proofs.Math.Seq.{take-suc}
-use Rattle.std.proofs.Common.{add-one, append-nil, Bool, true, false}
+use Rattle.std.proofs.Common.{add-one, append-nil}
 use Rattle.std.specs.FinMap.{get}
 use Rattle.std.proofs.lemmas.Grind.{flat_map-append}
 use Rattle.std.proofs.lemmas.List.{drop_more, take-append-drop}
@@ -110,6 +110,20 @@ module _ {C : Type 0} (bytes : C → List ℕ) where
         at l n s q (inl e) (inl f) (inr g) = inr (first q g.0, g.1)
         at l n s q (inl e) (inr f) (inl g) = inr (middle q f.0, sym g ∙ f.1)
         at l n s q (inl e) (inr f) (inr g) = inr (middle q f.0, g.1)
+
+  -- All were prepared, and what was prepared was removed as far as it could be.
+  pub discarded : (xs : List (Deed C)) (start now last : Option FileBytes) → ArePrepared bytes xs start now → ChangesOnly (temporaries xs) now last
+      → AddsOnly (temporaries xs) start last
+  discarded xs None now last p c = tt
+  discarded xs (Some files) now last p c =
+      let c' = subst (λ x. ChangesOnly (temporaries xs) x last) p.0 c in
+      (c'.0, c'.1, λ q. at c'.0 q (c'.2 q) (all_added xs files q p.1)) where
+        at : (l : FileBytes) (q : Path) → (get l q ≡ get (all_prepared bytes xs files) q) ⊎ Contains (temporaries xs) q
+            → (get (all_prepared bytes xs files) q ≡ get files q) ⊎ (Contains (temporaries xs) q × (get files q ≡ None))
+            → (get l q ≡ get files q) ⊎ (Contains (temporaries xs) q × (get files q ≡ None))
+        at l q (inr h) _ = inr (h, all_free xs files q p.1 h)
+        at l q (inl e) (inl f) = inl (e ∙ f)
+        at l q (inl e) (inr f) = inr f
 
 -- ---- what is removed
 

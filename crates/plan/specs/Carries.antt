@@ -1,9 +1,9 @@
 -- The law of carrying out a plan. (This project's own.)
-use Rattle.std.specs.Prelude.{ℕ, ◌⊎◌, List, Option, Some, None, Result, Ok, Err, slice_get, take}
+use Rattle.std.specs.Prelude.{ℕ, ◌⊎◌, List, [], ◌∷◌, Option, Some, None, Result, Ok, Err, drop, slice_get, take}
 use Rattle.folders.specs.Faults.{FailsBy}
 use Rattle.folders.specs.FileSystem.{AddsOnly, Becomes, FileBytes}
 use Rattle.folders.specs.declared.fault.Failure.{Failure}
-use Rattle.plan.specs.Faults.{IsAnyWriteFault, IsUncommitted, IsUnprepared}
+use Rattle.plan.specs.Faults.{IsUncommitted, IsUnprepared}
 use Rattle.plan.specs.Plans.{AreAsExpected, AreFreeIn, all_done, files_at, temporaries, temporary_of, with_prepared}
 use Rattle.plan.specs.declared.deed.Deed.{Deed}
 
@@ -15,20 +15,20 @@ module _ {C : Type 0} (bytes : C → List ℕ) where
   -- A deed could not be done: the ones before it are done, and the contents of it and the others are at their temporary paths, where nothing
   -- was.
   abbrev pub DoesFirst : List (Deed C) → Option FileBytes → Option FileBytes → Failure → Type 0
-  DoesFirst deeds before after f = (n : ℕ) × Becomes before after (files_at bytes deeds n) × AreFreeIn bytes deeds before × FailsBy (IsUncommitted (slice_get deeds n)) f
+  DoesFirst deeds before after f = (n : ℕ) × Becomes before after (files_at bytes deeds n) × AreFreeIn bytes deeds before × IsUncommitted (drop n deeds) f
 
-  -- All was as expected, and all is done; or for a failure nothing, or a first part, or all, but that it outlasts a power failure is not sure.
+  -- All was as expected, and all is done; or for a failure nothing, or a first part.
   abbrev pub Carries : List (Deed C) → Option FileBytes → Option FileBytes → Result (Unit {0}) Failure → Type 0
   Carries deeds before after (Ok u) = AreAsExpected before deeds × Becomes before after (all_done bytes deeds)
   Carries deeds before after (Err f) =
-      DoesNothing deeds before after f ⊎ (AreAsExpected before deeds × (DoesFirst deeds before after f ⊎ (Becomes before after (all_done bytes deeds) × FailsBy IsAnyWriteFault f)))
+      DoesNothing deeds before after f ⊎ (AreAsExpected before deeds × DoesFirst deeds before after f)
 
   -- This deed could not be done alone: nothing was done, or what it puts is at its temporary path, where nothing was.
   abbrev pub FailsOne : Option (Deed C) → Option FileBytes → Option FileBytes → Failure → Type 0
   FailsOne None before after f = ⊥
   FailsOne (Some deed) before after f =
       (AddsOnly (temporary_of deed) before after × FailsBy (IsUnprepared (Some deed)) f)
-      ⊎ (Becomes before after (with_prepared bytes deed) × FailsBy (IsUncommitted (Some deed)) f)
+      ⊎ (Becomes before after (with_prepared bytes deed) × IsUncommitted (deed ∷ []) f)
 
   -- The deeds are done one after another: all are done; or for a failure the first n, and the next one could not be done alone.
   abbrev pub CarriesEach : List (Deed C) → Option FileBytes → Option FileBytes → Result (Unit {0}) Failure → Type 0

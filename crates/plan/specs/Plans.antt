@@ -1,7 +1,9 @@
 -- What a plan does to files. (This project's own.)
 use Rattle.std.specs.Prelude.{◌≡◌, ◌≢◌, ℕ, Bool, false, List, [], ◌∷◌, ◌++◌, Option, Some, None, Result, Ok, Err, IfSome, drop, map, string_bytes, take, ⊤}
+use Rattle.std.specs.Borrow.{Bor}
 use Rattle.std.specs.FinMap.{insert, remove}
 use Rattle.std.specs.List.{All, flat_map, list_any}
+use Rattle.std.specs.Option.{ForSome}
 use Rattle.std.specs.Str.{bytes_eq}
 use Rattle.folders.specs.FileSystem.{Becomes, FileBytes, IsFree, Path, files_after_rename}
 use Rattle.folders.specs.Folders.{HasBytesOf}
@@ -11,7 +13,6 @@ use Rattle.plan.specs.declared.deed.Before.{Before}
 use Rattle.plan.specs.declared.deed.Before.TheVariants.{Any, Nothing, Loaded}
 use Rattle.plan.specs.declared.deed.Deed.{Deed}
 use Rattle.plan.specs.declared.deed.Deed.TheVariants.{Put, Remove}
-use Rattle.plan.specs.declared.looking.Stop.{Stop}
 
 -- ---- paths
 
@@ -39,17 +40,18 @@ abbrev pub is_first_at : {C : Type 0} → Path → Deed C → Bool
 is_first_at path (Put p temporary before contents) = bytes_eq (string_bytes temporary) path
 is_first_at path (Remove p before) = false
 
--- No path of a deed is a temporary one.
+-- This path is no temporary one, and neither is a path of a deed.
 abbrev pub IsNoTemporary : {C : Type 0} → Path → List (Deed C) → Type 0
 IsNoTemporary path deeds = All (λ deed. is_first_at path deed ≡ false) deeds
 
 abbrev pub AreApart : {C : Type 0} → List (Deed C) → Type 0
 AreApart deeds = All (λ deed. IsNoTemporary (path_of deed) deeds) deeds
 
--- A temporary path for this path: it is another one, and no path of a deed.
-pub record IsApartFrom {C : Type 0} (deeds : List (Deed C)) (path temporary : Path) : Type 0 where
+-- A temporary path for this path: it is another one, no path of a deed, and not the avoided path, if there is one.
+pub record IsApartFrom {C : Type 0} (deeds : List (Deed C)) (path : Path) (avoided : Option (Bor Path)) (temporary : Path) : Type 0 where
   pub others : list_any (is_at temporary) deeds ≡ false
   pub own : path ≢ temporary
+  pub free : ForSome avoided (λ other. other.now ≢ temporary)
 
 -- A file with these contents is put at this path, and is first written beside it.
 abbrev pub IsPut : {C : Type 0} → Path → Before → C → Deed C → Type 0
@@ -143,6 +145,6 @@ module _ {C : Type 0} (bytes : C → List ℕ) where
   ArePrepared deeds before after = Becomes before after (all_prepared deeds) × AreFreeIn deeds before
 
   -- Prepared deeds are done; or one could not be done, and then the ones before it are done and the others are prepared.
-  abbrev pub Commits : List (Deed C) → Option FileBytes → Option FileBytes → Result (Unit {0}) Stop → Type 0
+  abbrev pub Commits : List (Deed C) → Option FileBytes → Option FileBytes → Result (Unit {0}) ℕ → Type 0
   Commits deeds before after (Ok u) = Becomes before after (all_done deeds)
-  Commits deeds before after (Err stop) = Becomes before after (files_at deeds stop.at)
+  Commits deeds before after (Err n) = Becomes before after (files_at deeds n)

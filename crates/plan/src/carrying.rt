@@ -1,22 +1,34 @@
 // How a list of deeds is done: each file is first written at its temporary path, and only then the first of them is moved to its path.
 
-ghost use Rattle.std.specs.Prelude.{◌≡◌, ◌<◌, Option, IfErr, OnOk, OnErr, length, slice_get};
-ghost use Rattle.folders.specs.Failures.{KeepsFiles, ReportsPaths};
+ghost use Rattle.std.specs.Prelude.{◌≡◌, ◌<◌, ◌≤◌, ◌+◌, ◌∷◌, [], Option, IfErr, IfSome, OnOk, OnErr, drop, length, slice_get, vec_capacity};
+ghost use Rattle.folders.specs.Failures.{ReportsPaths};
 ghost use Rattle.folders.specs.Faults.{FailsBy, failure_paths};
 ghost use Rattle.folders.specs.FileSystem.{AddsOnly, Becomes, ChangesOnly, FileBytes};
 ghost use Rattle.plan.specs.Carries.{Carries, CarriesEach};
-ghost use Rattle.plan.specs.Faults.{IsAnyWriteFault, IsUncommitted, IsUnprepared, stop_paths, trouble_paths};
+ghost use Rattle.plan.specs.Faults.{IsUncommitted, IsUnprepared, path_at, stop_paths, trouble_paths};
 ghost use Rattle.plan.specs.Plans as plans;
 
 use crate::deed::{Before, Deed};
 use crate::looking::{Stop, Trouble, look, look_at};
 use crate::making::Plan;
-use folders::{Contents, Failure, Fault, FileSystem, write_failure};
+use folders::{Contents, Failure, Fault, FileSystem};
+use std::alloc::Global;
+use std::io;
 
-// Writes the contents of a deed at its temporary path. What is expected to be a disk's outlasts a power failure.
+/// Whose new contents outlast a power failure.
+#[derive(Clone, Copy, Debug, PartialEq, Eq)]
+pub enum Durable {
+    /// Those of each file.
+    All,
+    /// Those of a file for which something is expected at its path, as for those of disks.
+    Expected,
+}
+
+// Writes the contents of a deed at its temporary path.
 fn prepare_one<S: FileSystem, C: Contents>(
     system: &mut S,
     deed: &Deed<'_, C>,
+    durable: Durable,
 ) -> Result<(), Trouble>
     ensures prepared { OnOk result (Becomes (S.files system.old).bytes (S.files system.new).bytes
         (plans.with_prepared C.bytes deed.now)) }
@@ -35,17 +47,17 @@ fn prepare_one<S: FileSystem, C: Contents>(
     else {
         return Ok(());
     };
-    let durable = !matches!(before, Before::Any);
+    let durable = durable == Durable::All || !matches!(before, Before::Any);
     system.write_new(temporary.as_str(), path.as_str(), contents, durable)?;
     Ok(())
 }
 
 // Moves the contents of a prepared deed to its path, or removes its file.
-fn commit_one<S: FileSystem, C>(system: &mut S, deed: &Deed<'_, C>) -> Result<(), Trouble>
+fn commit_one<S: FileSystem, C>(system: &mut S, deed: &Deed<'_, C>) -> io::Result<()>
     ensures moved { OnOk result (Becomes (S.files system.old).bytes (S.files system.new).bytes
         (plans.committed deed.now)) }
     ensures err { OnErr result ((S.files system.new).bytes ≡ (S.files system.old).bytes) }
-    ensures failed { ReportsPaths (trouble_paths (plans.path_of deed.now)) result
+    ensures failed { ReportsPaths (λ _. plans.path_of deed.now ∷ []) result
         (S.files system.old) (S.files system.new) }
 {
     match deed {
@@ -53,10 +65,9 @@ fn commit_one<S: FileSystem, C>(system: &mut S, deed: &Deed<'_, C>) -> Result<()
             path,
             temporary,
             ..
-        } => system.rename(temporary.as_str(), path.as_str())?,
-        Deed::Remove { path, .. } => system.remove(path.as_str())?,
+        } => system.rename(temporary.as_str(), path.as_str()),
+        Deed::Remove { path, .. } => system.remove(path.as_str()),
     }
-    Ok(())
 }
 
 // Removes what was written at the temporary path of a deed, if it can be removed.
@@ -93,7 +104,7 @@ fn prepare<S: FileSystem, C: Contents>(system: &mut S, deeds: &[Deed<'_, C>]) ->
     ensures failed { ReportsPaths (stop_paths deeds.now) result (S.files system.old) (S.files system.new) }
 {
     for at in 0..deeds.len() {
-        if let Err(trouble) = prepare_one(system, &deeds[at]) {
+        if let Err(trouble) = prepare_one(system, &deeds[at], Durable::Expected) {
             discard_all(system, &deeds[..at]);
             return Err(Stop { at, trouble });
         }
@@ -101,18 +112,38 @@ fn prepare<S: FileSystem, C: Contents>(system: &mut S, deeds: &[Deed<'_, C>]) ->
     Ok(())
 }
 
-// Does deeds that are prepared, in their order. An error is the first that could not be done.
-fn commit<S: FileSystem, C: Contents>(system: &mut S, deeds: &[Deed<'_, C>]) -> Result<(), Stop>
+// Checks that what is at each path is as expected, writes the contents of each deed at its temporary path, and checks again. After an error
+// what was written is removed.
+fn make_ready<S: FileSystem, C: Contents>(system: &mut S, deeds: &[Deed<'_, C>]) -> Result<(), Stop>
+    ensures as_expected { OnOk result (plans.AreAsExpected (S.files system.old).bytes deeds.now) }
+    ensures prepared { OnOk result
+        (plans.ArePrepared C.bytes deeds.now (S.files system.old).bytes (S.files system.new).bytes) }
+    ensures err { OnErr result
+        (AddsOnly (plans.temporaries deeds.now) (S.files system.old).bytes (S.files system.new).bytes) }
+    ensures at { IfErr result (λ stop. stop.at < length deeds.now) }
+    ensures failed { ReportsPaths (stop_paths deeds.now) result (S.files system.old) (S.files system.new) }
+{
+    look(system, deeds)?;
+    prepare(system, deeds)?;
+    if let Err(stop) = look(system, deeds) {
+        discard_all(system, deeds);
+        return Err(stop);
+    }
+    Ok(())
+}
+
+// Does deeds that are prepared, in their order. An error is the place of the first that could not be done.
+fn commit<S: FileSystem, C: Contents>(system: &mut S, deeds: &[Deed<'_, C>]) -> Result<(), usize>
     requires { plans.AreApart deeds.now }
     ensures commits { (start : Option FileBytes)
         → plans.ArePrepared C.bytes deeds.now start (S.files system.old).bytes
         → plans.Commits C.bytes deeds.now start (S.files system.new).bytes result }
-    ensures at { IfErr result (λ stop. stop.at < length deeds.now) }
-    ensures failed { ReportsPaths (stop_paths deeds.now) result (S.files system.old) (S.files system.new) }
+    ensures at { IfErr result (λ at. at < length deeds.now) }
+    ensures failed { ReportsPaths (path_at deeds.now) result (S.files system.old) (S.files system.new) }
 {
     for at in 0..deeds.len() {
-        if let Err(trouble) = commit_one(system, &deeds[at]) {
-            return Err(Stop { at, trouble });
+        if commit_one(system, &deeds[at]).is_err() {
+            return Err(at);
         }
     }
     Ok(())
@@ -133,68 +164,66 @@ fn unprepared<C: Drop>(mut deeds: Vec<Deed<'_, C>>, stop: Stop) -> Failure
     }
 }
 
-// Returns the failure of the deed that was prepared and could not be done.
-fn uncommitted<C: Drop>(mut deeds: Vec<Deed<'_, C>>, stop: Stop) -> Failure
-    requires { stop.at < length deeds.items }
-    ensures fault { FailsBy (IsUncommitted (slice_get deeds.entry.items stop.at)) result }
-    ensures paths { failure_paths result ≡ stop_paths deeds.entry.items stop }
+// Returns the failure of the deed that was prepared and could not be done, with the temporary paths of those after it. Allocates nothing.
+fn uncommitted<C: Drop>(mut deeds: Vec<Deed<'_, C>>, at: usize, mut left: Vec<String>) -> Failure
+    requires at { at < length deeds.items }
+    requires empty { left.items ≡ [] }
+    requires room { length deeds.items ≤ at + 1 + vec_capacity left }
+    ensures fault { IsUncommitted (drop at deeds.entry.items) result }
+    ensures paths { failure_paths result ≡ path_at deeds.entry.items at }
 {
-    match (stop.trouble, deeds.swap_remove(stop.at)) {
-        (
-            Trouble::Failed,
-            Deed::Put {
-                path,
-                temporary,
-                ..
-            },
-        ) => Failure::AtFault(Fault::CannotMove(path, temporary)),
-        (Trouble::Failed, Deed::Remove { path, .. }) => Failure::AtFault(Fault::CannotWrite(path)),
-        _ => Failure::OutOfMemory,
+    while deeds.len() > at + 1 {
+        if let Some(deed) = deeds.pop()
+            && let Some(temporary) = deed.into_temporary()
+        {
+            left.push_reserved(temporary);
+        }
+    }
+    left.reverse();
+    match deeds.swap_remove(at) {
+        Deed::Put {
+            path,
+            temporary,
+            ..
+        } => Failure::AtFault(Fault::CannotMove(path, temporary, left)),
+        Deed::Remove { path, .. } => Failure::AtFault(Fault::CannotWrite(path)),
     }
 }
 
-// Makes sure that the names in folders outlast a power failure.
-fn sync_all<S: FileSystem>(system: &mut S, mut folders: Vec<String>) -> Result<(), Failure>
-    ensures fault { IfErr result (FailsBy IsAnyWriteFault) }
-    ensures unchanged { KeepsFiles failure_paths result (S.files system.old) (S.files system.new) }
+// Returns the failure of the deed that was prepared alone and could not be done. Allocates nothing.
+fn uncommitted_alone<C: Drop>(mut deeds: Vec<Deed<'_, C>>, at: usize, alloc: Global) -> Failure
+    requires { at < length deeds.items }
+    ensures fault { IfSome (slice_get deeds.entry.items at) (λ deed. IsUncommitted (deed ∷ []) result) }
+    ensures paths { failure_paths result ≡ path_at deeds.entry.items at }
 {
-    for at in 0..folders.len() {
-        if let Err(error) = system.sync(folders[at].as_str()) {
-            return Err(write_failure(error, folders.swap_remove(at)));
-        }
-    }
-    Ok(())
+    deeds.truncate(at + 1);
+    uncommitted(deeds, at, Vec::new(alloc))
 }
 
 /// Carries a plan out. First it is checked that what is at each path is as expected; then the contents of each deed are written at its
-/// temporary path; only then the deeds are done, in their order; and then the names in these folders are made to outlast a power failure.
-/// Nothing is allocated between two deeds.
+/// temporary path; then it is checked again; and only then the deeds are done, in their order. Nothing is allocated between two deeds.
 ///
 /// # Errors
 ///
 /// Returns the first path where something else is found, or whose contents could not be written: then every file is as it was. Or the
-/// first deed that could not be done: the ones before it are done, and the contents of it and the others are at their temporary paths. Or
-/// the folder: then all is done.
+/// first deed that could not be done: the ones before it are done, and the contents of it and the others are at their temporary paths.
 pub fn carry_out<S: FileSystem, C: Contents + Drop>(
     system: &mut S,
     plan: Plan<'_, C>,
-    folders: Vec<String>,
 ) -> Result<(), Failure>
     ensures carried { Carries C.bytes plan.entry.deeds.items
         (S.files system.old).bytes (S.files system.new).bytes result }
     ensures failed { ReportsPaths failure_paths result (S.files system.old) (S.files system.new) }
 {
     let deeds = plan.deeds;
-    if let Err(stop) = look(system, deeds.as_slice()) {
+    let left = Vec::with_capacity(system.alloc(), deeds.len())?;
+    if let Err(stop) = make_ready(system, deeds.as_slice()) {
         return Err(unprepared(deeds, stop));
     }
-    if let Err(stop) = prepare(system, deeds.as_slice()) {
-        return Err(unprepared(deeds, stop));
+    match commit(system, deeds.as_slice()) {
+        Ok(()) => Ok(()),
+        Err(at) => Err(uncommitted(deeds, at, left)),
     }
-    if let Err(stop) = commit(system, deeds.as_slice()) {
-        return Err(uncommitted(deeds, stop));
-    }
-    sync_all(system, folders)
 }
 
 /// Carries the deeds of a plan out one after another, each as a whole.
@@ -205,6 +234,7 @@ pub fn carry_out<S: FileSystem, C: Contents + Drop>(
 pub fn carry_out_each<S: FileSystem, C: Contents + Drop>(
     system: &mut S,
     plan: Plan<'_, C>,
+    durable: Durable,
 ) -> Result<(), Failure>
     ensures carried { CarriesEach C.bytes plan.entry.deeds.items
         (S.files system.old).bytes (S.files system.new).bytes result }
@@ -215,11 +245,11 @@ pub fn carry_out_each<S: FileSystem, C: Contents + Drop>(
         if let Err(trouble) = look_at(system, &deeds[at]) {
             return Err(unprepared(deeds, Stop { at, trouble }));
         }
-        if let Err(trouble) = prepare_one(system, &deeds[at]) {
+        if let Err(trouble) = prepare_one(system, &deeds[at], durable) {
             return Err(unprepared(deeds, Stop { at, trouble }));
         }
-        if let Err(trouble) = commit_one(system, &deeds[at]) {
-            return Err(uncommitted(deeds, Stop { at, trouble }));
+        if commit_one(system, &deeds[at]).is_err() {
+            return Err(uncommitted_alone(deeds, at, system.alloc()));
         }
     }
     Ok(())

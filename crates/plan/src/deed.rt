@@ -1,6 +1,7 @@
 // What is to be done to one file.
 
-ghost use Rattle.std.specs.Prelude.{◌≡◌, string_bytes};
+ghost use Rattle.std.specs.Prelude.{◌≡◌, option_map, string_bytes};
+ghost use Rattle.std.specs.Option.{option_to_list};
 ghost use Rattle.plan.specs.Plans as plans;
 
 use hostfiles::HostFile;
@@ -57,6 +58,23 @@ impl<'a, C> Deed<'a, C> {
                 ..
             } => path,
             Deed::Remove { path, .. } => path,
+        }
+    }
+
+    /// Returns the temporary path alone, if there is one.
+    pub(crate) fn into_temporary(self) -> Option<String>
+    where
+        C: Drop,
+        ensures { option_to_list (option_map string_bytes result) ≡ plans.temporary_of self.entry }
+    {
+        match self {
+            Deed::Put {
+                path: _path,
+                temporary,
+                contents: _contents,
+                ..
+            } => Some(temporary),
+            Deed::Remove { path: _path, .. } => None,
         }
     }
 

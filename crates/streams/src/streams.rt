@@ -51,7 +51,12 @@ pub trait Writer {
         ensures { output self.new ≡ output self.old }
     {}
 
-    /// Takes away the steps that are shown.
+    /// Shows that a run waits for a folder, until something is written here or `hide_steps` is called. Only a terminal does so.
+    fn show_waiting(&mut self, _folder: &str)
+        ensures { output self.new ≡ output self.old }
+    {}
+
+    /// Takes away what is shown.
     fn hide_steps(&mut self)
         ensures { output self.new ≡ output self.old }
     {}

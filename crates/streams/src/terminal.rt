@@ -10,7 +10,7 @@ use std::rt::Clock;
 use std::time::{Duration, Instant};
 
 /// Standard error. If it is a terminal, it shows the steps of a run in progress on a line of their own once nothing was written for two
-/// seconds, and a contract does not see what it holds.
+/// seconds, or the folder for which a run waits, and a contract does not see what it holds.
 #[derive(Drop)]
 pub struct Terminal<'a, R, W> {
     rt: &'a R,
@@ -40,7 +40,7 @@ impl<'a, R: Alloc + Clock + Env + Files, W: Write> Terminal<'a, R, W> {
         }
     }
 
-    // Wipes the steps that are shown, and begins to wait for two seconds. Their line has nothing else.
+    // Wipes what is shown, and begins to wait for two seconds. Their line has nothing else.
     fn wipe(&mut self)
         ensures terminal { self.new.is_terminal ≡ self.old.is_terminal }
         ensures failures { self.new.over.failures ≡ self.old.over.failures }
@@ -62,6 +62,13 @@ fn is_terminal<R: Alloc + Env + Files>(rt: &R) -> bool {
         return false;
     };
     (device.starts_with("/dev/pts") || device.starts_with("/dev/tty")) && kind.as_str() != "dumb"
+}
+
+// Returns whether a text has a character that controls a terminal.
+fn has_control(text: &str) -> bool {
+    text.as_bytes()
+        .iter()
+        .any(|byte| *byte < b' ' || *byte == 0x7f)
 }
 
 // Returns whether a text leaves an empty line: it is empty or ends a line, and has no ESC, by which a program moves the cursor.
@@ -95,6 +102,19 @@ impl<R: Alloc + Clock + Env + Files, W: Write> Writer for Terminal<'_, R, W> {
                 let _ = write!(self.over.inner, "{millions} million steps");
                 self.shows = true;
             }
+        }
+    }
+
+    fn show_waiting(&mut self, folder: &str) {
+        if self.is_terminal {
+            self.wipe();
+            let named = if has_control(folder) {
+                "a disk"
+            } else {
+                folder
+            };
+            let _ = write!(self.over.inner, "waiting for {named}");
+            self.shows = true;
         }
     }
 

@@ -24,6 +24,8 @@ pub enum Act<'a> {
     Link(&'a str, &'a str),
     /// The text for a folder that is read as the folder of a drive, counted from 0, or of no drive.
     Tells(&'a str, Option<usize>, Text<'a>),
+    /// The names in the folder under which ended runs left new contents.
+    TellsLeft(&'a str, Text<'a>),
     /// The text if another folder is read as the folder of drive B.
     TellsBoth(&'a str, &'a str, Text<'a>),
     /// A folder for drive C with a file `two` of two records and a file `none` of none.
@@ -48,7 +50,7 @@ pub enum Act<'a> {
 
 use Act::{
     Does, DoesEach, HasAHole, HasBoth, Holds, Lacks, Link, MakeFolder, Place, Put, PutMany,
-    PutSparse, RemoveFolder, Streams, Tells, TellsBoth, Writes,
+    PutSparse, RemoveFolder, Streams, Tells, TellsBoth, TellsLeft, Writes,
 };
 
 /// The expected text.
@@ -86,8 +88,8 @@ fn play_case(rt: &HostRuntime, case: &Case<'_>) -> Result<(), Fail> {
     Ok(())
 }
 
-// Makes an empty folder for a case of this name, and returns its path.
-fn make_folder(rt: &HostRuntime, name: &str) -> Result<String, Fail> {
+/// Makes an empty folder for a case of this name, and returns its path.
+pub fn make_folder(rt: &HostRuntime, name: &str) -> Result<String, Fail> {
     let id = process::id(rt.process());
     let path = format!(in rt.alloc(); "/tmp/vembrusk-{id} {name}")?;
     make_empty(rt, path.as_str())?;
@@ -130,6 +132,7 @@ fn place_of(act: Act<'_>) -> &str {
         Put(place, _) | PutSparse(place, _) | PutMany(place, _) => place,
         MakeFolder(place) | RemoveFolder(place) | Link(place, _) => place,
         Tells(place, _, _) | TellsBoth(place, _, _) | HasBoth(place) => place,
+        TellsLeft(place, _) => place,
         Writes(place, _, _, _) | HasAHole(place) | Holds(place, _) | Lacks(place) => place,
         Place(place, _, _) | Streams(place, _, _) => place,
         Does(_, _) | DoesEach(_, _) => "",
@@ -171,6 +174,10 @@ fn put_empty(rt: &HostRuntime, folder: &str, number: u32) -> Result<(), Fail> {
 fn answers(rt: &HostRuntime, folder: &str, path: &str, act: Act<'_>) -> Result<bool, Fail> {
     match act {
         Tells(_, drive, text) => tells(rt, folder, on_drive(drive, path), text),
+        TellsLeft(_, text) => {
+            let found = told(rt, on_drive(Some(0), path), Telling::Left)?;
+            Ok(is_text(found.as_str(), folder, text))
+        }
         TellsBoth(_, place, text) => tells_both(rt, folder, path, place, text),
         HasBoth(_) => has_both(rt, path),
         Writes(_, name, how, text) => writes(rt, folder, path, name, how, text),

@@ -1,13 +1,15 @@
 //! The tests of host folders, over files and folders that they write. Their acts call `folders` itself; those of `test_command`, which
 //! also begin with files in a folder, call the command alone. So each has its own.
 //!
-//! - `reading`, `writing`, `faults`: tests over folders and files that they write
+//! - `reading`, `writing`, `faults`, `calls`: tests over folders and files that they write
 //! - `acts`: acts in the folder of a test, and the expected results
 //! - `listed`, `written`, `planned`: texts for folders that are read; files that a run made, and that are written; deeds of a plan
 #![tactic(auto)]
 
 #[cfg(test)]
 mod acts;
+#[cfg(test)]
+mod calls;
 #[cfg(test)]
 mod faults;
 #[cfg(test)]

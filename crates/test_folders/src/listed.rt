@@ -1,7 +1,7 @@
 // Texts for folders that are read.
 
 use filenames::Name;
-use folders::{Failure, SystemFiles, read_folders};
+use folders::{Failure, Listing, ReadFolders, SystemFiles, read_folders};
 use hostfiles::HostFiles;
 use std::alloc::{AllocError, Global};
 use std::test::Fail;
@@ -11,6 +11,8 @@ use std::test::Fail;
 pub enum Telling {
     /// Their names, each printed after a blank.
     Names,
+    /// The names in the folder of drive A under which ended runs left new contents, each after a blank.
+    Left,
     /// `both`, if drive C has a file `two` of 130 bytes `y`, and a file `none` of none.
     Both,
 }
@@ -22,16 +24,28 @@ pub fn told(
     telling: Telling,
 ) -> Result<String, Fail> {
     match read_folders(&mut SystemFiles::new(rt), &folders) {
-        Ok(read) => tell(rt.alloc(), &read.files, telling),
+        Ok(read) => tell(rt.alloc(), &read, telling),
         Err(failure) => Ok(text(rt.alloc(), &failure)?),
     }
 }
 
-fn tell(alloc: Global, files: &HostFiles, telling: Telling) -> Result<String, Fail> {
+fn tell(alloc: Global, read: &ReadFolders, telling: Telling) -> Result<String, Fail> {
     match telling {
-        Telling::Names => Ok(names(alloc, files)?),
-        Telling::Both => both(alloc, files),
+        Telling::Names => Ok(names(alloc, &read.files)?),
+        Telling::Left => Ok(left(alloc, &read.listings[0])?),
+        Telling::Both => both(alloc, &read.files),
     }
+}
+
+fn left(alloc: Global, listing: &Option<Listing>) -> Result<String, AllocError> {
+    let mut list = String::new(alloc);
+    if let Some(listing) = listing {
+        for name in &listing.left {
+            list.push_str(" ")?;
+            list.push_str(name.as_str())?;
+        }
+    }
+    Ok(list)
 }
 
 fn both(alloc: Global, files: &HostFiles) -> Result<String, Fail> {

@@ -4,7 +4,7 @@ use crate::listed::text;
 use folders::{Failure, FileSystem, SystemFiles, Written};
 use hostfiles::HostFile;
 use hostfiles::host::FILE_LIMIT;
-use plan::{Before, Plan, carry_out, carry_out_each};
+use plan::{Before, Durable, Plan, carry_out, carry_out_each};
 use std::alloc::{AllocError, Global};
 use std::test::Fail;
 
@@ -49,7 +49,8 @@ pub enum Manner {
     OneByOne,
 }
 
-/// Does deeds in a folder by one plan, and returns the text for the error, empty if there is none.
+/// Does deeds in a folder by one plan, in which no temporary path is the path of the last deed. Returns the text for the error, empty if there is
+/// none.
 pub fn did(
     rt: &HostRuntime,
     folder: &str,
@@ -82,30 +83,23 @@ fn carried<S: FileSystem>(
     loaded: &[HostFile],
     manner: Manner,
 ) -> Result<(), Failure> {
-    let mut plan = Plan::new(system.alloc());
+    let avoided = match parts.last() {
+        Some(part) => path_of(system.alloc(), folder, *part)?,
+        None => String::new(system.alloc()),
+    };
+    let mut plan = Plan::avoiding(system.alloc(), Some(avoided.as_str()));
     for (part, file) in parts.iter().zip(loaded) {
         add(system, &mut plan, folder, *part, file)?;
     }
     match manner {
-        Manner::AsAWhole => carry(system, plan, folder),
-        Manner::OneByOne => carry_out_each(system, plan),
+        Manner::AsAWhole => carry_out(system, plan),
+        Manner::OneByOne => carry_out_each(system, plan, Durable::All),
     }
 }
 
-// Carries a plan out as a whole, and syncs a folder.
-fn carry<S: FileSystem>(
-    system: &mut S,
-    plan: Plan<'_, Written<'_>>,
-    folder: &str,
-) -> Result<(), Failure> {
-    let mut folders = Vec::new(system.alloc());
-    let Ok(folder) = String::from_str(system.alloc(), folder) else {
-        return Err(Failure::OutOfMemory);
-    };
-    let Ok(()) = folders.push(folder) else {
-        return Err(Failure::OutOfMemory);
-    };
-    carry_out(system, plan, folders)
+fn path_of(alloc: Global, folder: &str, part: Part<'_>) -> Result<String, AllocError> {
+    let place = part.place();
+    format!(in alloc; "{folder}/{place}")
 }
 
 fn add<'a, S: FileSystem>(
@@ -115,10 +109,7 @@ fn add<'a, S: FileSystem>(
     part: Part<'_>,
     file: &'a HostFile,
 ) -> Result<(), Failure> {
-    let place = part.place();
-    let Ok(path) = format!(in system.alloc(); "{folder}/{place}") else {
-        return Err(Failure::OutOfMemory);
-    };
+    let path = path_of(system.alloc(), folder, part)?;
     let before = match part.expected() {
         Expected::Any => Before::Any,
         Expected::Nothing => Before::Nothing,

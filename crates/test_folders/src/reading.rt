@@ -1,6 +1,6 @@
 // Folders that are read.
 
-use crate::acts::Act::{HasBoth, Link, MakeFolder, Put, Tells};
+use crate::acts::Act::{HasBoth, Link, MakeFolder, Put, Tells, TellsLeft};
 use crate::acts::Text::Is;
 use crate::acts::{Case, play};
 use std::test::Fail;
@@ -22,6 +22,26 @@ const CASES: &[Case<'_>] = &[
             Tells("", Some(0), Is(" #1 A.TXT B.DAT")),
             Tells("", Some(1), Is(" B:#1 B:A.TXT B:B.DAT")),
             Tells("", Some(3), Is(" D:#1 D:A.TXT D:B.DAT")),
+        ],
+    },
+    // A name that no file of a run gets is not that of new contents, and what is there need not be a file.
+    Case {
+        name: "what ended runs left is listed",
+        acts: &[
+            Put(".a.txt.new.12", b"x"),
+            Tells("", Some(0), Is("")),
+            TellsLeft("", Is(" .a.txt.new.12")),
+            Put(".a.txt.new.", b"x"),
+            Put(".a.txt.new.1x", b"x"),
+            Put(".a.txt.12", b"x"),
+            Put(".a.txt.newer", b"x"),
+            Put(".too.long.new", b"x"),
+            Put("..new", b"x"),
+            Put("a.new", b"x"),
+            TellsLeft("", Is(" .a.txt.new.12")),
+            MakeFolder("inner"),
+            MakeFolder("inner/.NEW.NEW.new"),
+            TellsLeft("inner", Is(" .NEW.NEW.new")),
         ],
     },
     Case {

@@ -178,7 +178,7 @@ const CASES: &[Case<'_>] = &[
             Put("one.txt", b""),
             Place("", "d:new.txt", Around("", "/new.txt")),
             Put("TWO.TXT", b""),
-            Put("LONGER.THAN", b""),
+            Put("OTHER.THAN", b""),
             Put("12.34", b""),
             Place("", "new.txt", Around("", "/NEW.TXT")),
             Put("three", b""),
@@ -241,6 +241,62 @@ const CASES: &[Case<'_>] = &[
 #[test]
 fn files_that_are_written(rt: HostRuntime) -> Result<(), Fail> {
     play(&rt, CASES)
+}
+
+/// A name of 255 bytes.
+const LONG: &str =
+    "01234567890123456789012345678901234567890123456789012345678901234567890123456789\
+01234567890123456789012345678901234567890123456789012345678901234567890123456789\
+01234567890123456789012345678901234567890123456789012345678901234567890123456789\
+012345678901234";
+
+/// Another one.
+const OTHER: &str =
+    "01234567890123456789012345678901234567890123456789012345678901234567890123456789\
+01234567890123456789012345678901234567890123456789012345678901234567890123456789\
+01234567890123456789012345678901234567890123456789012345678901234567890123456789\
+01234567890123x";
+
+const TEMPORARIES: &[Case<'_>] = &[
+    Case {
+        name: "a file with a long name is written",
+        acts: &[
+            Does(
+                &[
+                    Puts(LONG, Nothing),
+                    Puts(OTHER, Nothing),
+                    Puts("X", Nothing),
+                ],
+                Is(""),
+            ),
+            Holds(LONG, b"put"),
+            Holds(OTHER, b"put"),
+            Lacks(".cpmrun.new"),
+            Lacks(".cpmrun.new.1"),
+        ],
+    },
+    // The first is written beside itself, but not at the path of the last.
+    Case {
+        name: "a file is put at what would be a temporary path",
+        acts: &[
+            Does(&[Puts("X", Nothing), Puts(".X.new", Nothing)], Is("")),
+            Holds("X", b"put"),
+            Holds(".X.new", b"put"),
+            Does(
+                &[Puts("Y", Any), Puts(".Y.new", Any), Puts("Z", Any)],
+                Around(
+                    "cannot write ",
+                    "/.Y.new: no temporary name beside it is free",
+                ),
+            ),
+            Lacks("Y"),
+        ],
+    },
+];
+
+#[test]
+fn files_that_have_no_temporary_path_of_their_own(rt: HostRuntime) -> Result<(), Fail> {
+    play(&rt, TEMPORARIES)
 }
 
 #[test]

@@ -8,7 +8,7 @@ use folders::{
     read_folders, write_failure,
 };
 use hostfiles::{FileView, Gap, HostFiles, Journal};
-use plan::{Before, Plan, carry_out_each};
+use plan::{Before, Durable, Plan, carry_out_each};
 use std::alloc::{AllocError, Global};
 use std::io::ErrorKind;
 use std::test::Fail;
@@ -91,7 +91,7 @@ fn write_at_place<S: FileSystem>(
         Ok(Some(path)) => {
             let mut plan = Plan::new(system.alloc());
             plan.put(system, path, Before::Any, Written::File(file))?;
-            carry_out_each(system, plan)
+            carry_out_each(system, plan, Durable::Expected)
         }
         Ok(None) => Ok(()),
         Err(_) => Err(Failure::OutOfMemory),

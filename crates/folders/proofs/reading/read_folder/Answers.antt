@@ -16,7 +16,7 @@ pub returns-clause-names : goal.returns-clause-names
 returns-clause-names g c =
     let listing = c.in_ok-listing.listing in
     names_of (g.S.FileSystem.files c.args.system.now) (drive_number c.args.drive) c.args.folder.now listing
-    (ap drive_number c.in_ok-listing.ensures.drive) c.in_default.is c.in_ok-listing.ensures.lists c.in_ok-listing.ensures.lower
+    (ap drive_number c.in_ok-listing.ensures.drive) c.in_default.is c.in_ok-listing.ensures.lists c.in_ok-listing.ensures.lower c.in_ok-listing.ensures.left
 
 pub returns-in_err-read_listed-clause-fault : goal.returns-in_err-read_listed-clause-fault
 returns-in_err-read_listed-clause-fault g c =
