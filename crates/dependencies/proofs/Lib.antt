@@ -1,2 +1,3 @@
+pub mod BiosLemmas
 pub mod DecideLemmas
 pub mod RowLemmas

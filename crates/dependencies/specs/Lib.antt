@@ -1,2 +1,3 @@
+pub mod Bios
 pub mod Dependencies
 pub mod Rows

@@ -7,6 +7,7 @@ use Rattle.command_words.specs.declared.words.DependencyWords.{DependencyWords}
 use Rattle.faults.specs.declared.fault.Fault.{Fault}
 use Rattle.faults.specs.declared.tool.Tool.TheVariants.{Cpmdeps}
 use Rattle.make_rules.specs.RefusedPaths.{FailsPaths, refuses_rule}
+use Rattle.requests.specs.Acts.{exits}
 use Rattle.requests.specs.Programs.{Program, Task}
 use Rattle.dependency_command.specs.AreDependencyWords.{AreDependencyWords}
 use Rattle.dependency_command.specs.Answers.{BreaksAnswer, IsAnswer, ReportsAnswer, WritesAnswer}
@@ -25,11 +26,10 @@ answering w = record {
   session = w.session;
   Refuses = RefusesPaths w;
   Allows = AllowsPaths w;
-  act = λ s listings. record {
+  act = λ s listings status. exits status 0 (record {
     Does = λ before after. WritesAnswer (IsAnswer w listings s) before.out after.out × ReportsAnswer w s before.err after.err;
     Leaves = λ before after fault. BreaksAnswer (IsAnswer w listings s) before.out after.out fault;
-  };
-  status = λ s. 0;
+  });
 }
 
 abbrev pub cpmdeps : Program DependencyWords

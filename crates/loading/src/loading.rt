@@ -7,7 +7,7 @@ ghost use Rattle.folders.specs.Failures.{KeepsFiles, io_paths};
 ghost use Rattle.folders.specs.FileSystem.{Opens, ReadsFile};
 ghost use Rattle.machine.specs.Session.{session_or_refusal};
 ghost use Rattle.faults.specs.Faults.{file_paths};
-ghost use Rattle.loading.specs.Loading.{IsLoadedFrom, IsScriptAt, IsScriptOf, IsTypedScript, MadeOrRefused, FailsToLoad, IsReadFaultOf, IsReadFaultIfAny};
+ghost use Rattle.loading.specs.Loading.{AreInputsOf, IsLoadedFrom, IsScriptAt, IsScriptOf, IsTypedScript, MadeOrRefused, FailsToLoad, IsReadFaultOf, IsReadFaultIfAny};
 
 use crate::typed::typed_script;
 use command_words::SessionWords;
@@ -91,7 +91,7 @@ fn script_of<'a, S: FileSystem>(
     typed: Option<Vec<u8>>,
 ) -> Result<Vec<u8>, Fault<'a>>
     requires { IsTypedScript words.now.typed (option_map (λ bytes. bytes.items) typed) }
-    ensures script { IfOk result (λ script. IsScriptOf (S.files system.old) words.now script.items) }
+    ensures script { IfOk result (λ script. IsScriptOf (S.files system.old).bytes words.now script.items) }
     ensures fault { IfErr result
         (λ fault. (words.now.typed ≡ None) × IsReadFaultIfAny (text_of words.now.console) fault) }
     ensures unchanged { KeepsFiles file_paths result (S.files system.old) (S.files system.new) }
@@ -142,13 +142,75 @@ impl Loaded {
     }
 }
 
-/// Loads the session that the words describe: reads the program, the folders of the drives A to D and the script, in this order. A
-/// script that is given as text is not read.
+/// The program, the command tail and the script of a session, which were read.
+#[derive(Drop)]
+pub struct Inputs {
+    program: Vec<u8>,
+    tail: Vec<u8>,
+    script: Vec<u8>,
+}
+
+/// Reads the program and the script of the words, in this order. A script that is given as text is not read.
 ///
 /// # Errors
 ///
-/// Returns `Err` if the text of a script has a bad escape, and then reads nothing. Returns `Err` if a file or a folder cannot be read or
-/// is refused, if the session is refused, or if an allocation fails.
+/// Returns `Err` if the text of a script has a bad escape, and then reads nothing. Returns `Err` if a file cannot be read or an allocation
+/// fails.
+pub fn read_inputs<'a, S: FileSystem>(
+    system: &mut S,
+    words: &SessionWords<'a>,
+) -> Result<Inputs, Fault<'a>>
+    ensures inputs { IfOk result (AreInputsOf (S.files system.old).bytes words.now) }
+    ensures fault { IfErr result (FailsToLoad (S.files system.old) words.now) }
+    ensures unchanged { KeepsFiles file_paths result (S.files system.old) (S.files system.new) }
+{
+    let tail = words.tail.as_bytes().to_vec(system.alloc())?;
+    let typed = typed_script(system.alloc(), words.typed)?;
+    let program = program_at(system, words.program)?;
+    let script = script_of(system, words, typed)?;
+    Ok(Inputs {
+        program,
+        tail,
+        script,
+    })
+}
+
+/// Loads the session of the words from its inputs and from the folders of the drives A to D, which are read in this order.
+///
+/// # Errors
+///
+/// Returns `Err` if a folder or a file in it cannot be read or is refused, if the session is refused, or if an allocation fails.
+pub fn load_with<'a, S: FileSystem>(
+    system: &mut S,
+    words: &SessionWords<'a>,
+    inputs: Inputs,
+) -> Result<Loaded, Fault<'a>>
+    requires { AreInputsOf (S.files system.old).bytes words.now inputs }
+    ensures session { IfOk result
+        (λ loaded. IsLoadedFrom (S.files system.old) words.now loaded.session) }
+    ensures names { IfOk result
+        (λ loaded. AreListings (S.files system.old) words.now.files loaded.listings) }
+    ensures fault { IfErr result (FailsToLoad (S.files system.old) words.now) }
+    ensures unchanged { KeepsFiles file_paths result (S.files system.old) (S.files system.new) }
+{
+    let Inputs {
+        program,
+        tail,
+        script,
+    } = inputs;
+    let read = read_folders(system, &words.files)?;
+    let session = session_of(program, tail, read.files, script, words.limit)?;
+    Ok(Loaded {
+        session,
+        listings: read.listings,
+    })
+}
+
+/// Loads the session that the words describe: reads the program, the script and the folders of the drives A to D, in this order.
+///
+/// # Errors
+///
+/// Returns `Err` as `read_inputs` and `load_with` do.
 pub fn load<'a, S: FileSystem>(
     system: &mut S,
     words: &SessionWords<'a>,
@@ -160,14 +222,6 @@ pub fn load<'a, S: FileSystem>(
     ensures fault { IfErr result (FailsToLoad (S.files system.old) words.now) }
     ensures unchanged { KeepsFiles file_paths result (S.files system.old) (S.files system.new) }
 {
-    let tail = words.tail.as_bytes().to_vec(system.alloc())?;
-    let typed = typed_script(system.alloc(), words.typed)?;
-    let program = program_at(system, words.program)?;
-    let read = read_folders(system, &words.files)?;
-    let script = script_of(system, words, typed)?;
-    let session = session_of(program, tail, read.files, script, words.limit)?;
-    Ok(Loaded {
-        session,
-        listings: read.listings,
-    })
+    let inputs = read_inputs(system, words)?;
+    load_with(system, words, inputs)
 }

@@ -21,5 +21,6 @@ leaves_files (Ok x) Breaks files now none same h = keeps_same file_paths x files
 leaves_files (Err f) Breaks files now none same h = record {
   bytes = ap (λ (s : StoredFiles). s.bytes) same;
   names = ap (λ (s : StoredFiles). s.names) same;
+  special = ap (λ (s : StoredFiles). s.special) same;
   failed = ap (λ (s : StoredFiles). s.failed) same ∙ sym (ap (λ paths. paths ++ files.failed) (none f h));
 }

@@ -32,6 +32,13 @@ with_some {A} Is act = record {
   Leaves = λ before after fault. (x : A) × Is x × (act x).Leaves before after fault;
 }
 
+-- An act after which the program exits with the status that is wanted then.
+abbrev pub exits : ℕ → ℕ → Act → Act
+exits status wanted a = record {
+  Does = λ before after. (status ≡ wanted) × a.Does before after;
+  Leaves = a.Leaves;
+}
+
 -- Standard output gets a text.
 abbrev pub print : List ℕ → Act
 print text = record {

@@ -22,9 +22,8 @@ pub record Task : Type 1 where
   -- Why the words are refused before the session is loaded, and that they are not.
   pub Refuses : Fault → Type 0
   pub Allows : Type 0
-  -- What is done with the session, which was loaded from folders with these names; and the status after that.
-  pub act : Session → List (Option Listing) → Act
-  pub status : Session → ℕ
+  -- What is done with the session, which was loaded from folders with these names, if the program exits with this status.
+  pub act : Session → List (Option Listing) → ℕ → Act
 
 -- A program: its name, and what its words say.
 pub record Program (W : Type 0) : Type 1 where
@@ -44,17 +43,16 @@ pub record Does (t : Task) (status : ℕ) (before after : World) : Type 0 where
   pub of : IsLoadedFrom before.files t.session s
   pub listings : List (Option Listing)
   pub listed : AreListings before.files t.session.files listings
-  pub done : (t.act s listings).Does before after
-  pub exits : status ≡ t.status s
+  pub done : (t.act s listings status).Does before after
 
 -- What an error of a task leaves: it was refused, or its session was not loaded, and nothing was written; or what was done with the
--- session broke off.
+-- session broke off, which is the same for each status.
 abbrev pub Fails : Task → World → World → Fault → Type 0
 Fails t before after fault =
     (t.Refuses fault × WritesNothing before after)
     ⊎ (t.Allows × ((FailsToLoad before.files t.session fault × WritesNothing before after)
     ⊎ ((s : Session) × (listings : List (Option Listing)) × IsLoadedFrom before.files t.session s × AreListings before.files t.session.files listings
-    × (t.act s listings).Leaves before after fault)))
+    × (t.act s listings 0).Leaves before after fault)))
 
 -- Help or the version was written.
 pub record Informs (Has : ErrorClass → Type 0) (status : ℕ) (before after : World) : Type 0 where

@@ -4,7 +4,7 @@ use Rattle.command_words.specs.ErrorClass.{HasErrorClass}
 use Rattle.command_words.specs.TraceLine.{AreTraceWordsOf, trace_faults, trace_matches}
 use Rattle.command_words.specs.declared.trace_words.TraceWords.{TraceWords}
 use Rattle.faults.specs.declared.tool.Tool.TheVariants.{Cpmtrace}
-use Rattle.requests.specs.Acts.{print, with_some}
+use Rattle.requests.specs.Acts.{exits, print, with_some}
 use Rattle.requests.specs.Programs.{Program, Task}
 use Rattle.trace_filters.specs.declared.choice.Choice.{Choice}
 use Rattle.tracing.specs.Trace.{trace_text}
@@ -17,8 +17,7 @@ tracing w = record {
   session = w.session;
   Refuses = RefusesValue w;
   Allows = (choice : Choice) × IsChoiceOf w choice;
-  act = λ s listings. with_some (IsChoiceOf w) (λ choice. print (trace_text choice s));
-  status = λ s. 0;
+  act = λ s listings status. exits status 0 (with_some (IsChoiceOf w) (λ choice. print (trace_text choice s)));
 }
 
 abbrev pub cpmtrace : Program TraceWords

@@ -37,8 +37,7 @@ returns-clause-done g c =
           of = loaded.session;
           listings = c.in_ok-loaded.loaded.listings;
           listed = loaded.names;
-          done = (written, reported);
-          exits = refl;
+          done = (refl, (written, reported));
         },
       );
     }) c.write_answer.ensures.done c.write_answer.ensures.reported

@@ -38,8 +38,7 @@ returns-clause-done g c =
           of = loaded.session;
           listings = c.in_ok-loaded.loaded.listings;
           listed = loaded.names;
-          done = (c.in_ok-choice.choice, c.in_ok-choice.ensures.choice, (written, loaded.unchanged.bytes, refl));
-          exits = refl;
+          done = (refl, (c.in_ok-choice.choice, c.in_ok-choice.ensures.choice, (written, loaded.unchanged.bytes, refl)));
         },
       );
     }) c.write_trace.ensures.done
