@@ -18,8 +18,9 @@ module _ (steps : ℕ) (before after : World) where
   does : (w : Words) (o : Option (Bor (List ℕ))) (status : ℕ) → Does (task_of (by_runner steps) w o) status before after → Does (task_of by_text w o) status before after
   does w None status d = d
   does w (Some path) status d =
-      let (err, files, replayed) = d.done in
-      record { allowed = d.allowed; s = d.s; of = d.of; listings = d.listings; listed = d.listed; done = (err, files, replay_without_steps _ _ _ _ _ replayed); exits = d.exits }
+      let (exits, done) = d.done in
+      let (err, files, replayed) = done in
+      record { allowed = d.allowed; s = d.s; of = d.of; listings = d.listings; listed = d.listed; done = (exits, (err, files, replay_without_steps _ _ _ _ _ replayed)) }
 
   fails : (w : Words) (o : Option (Bor (List ℕ))) (f : Fault) → Fails (task_of (by_runner steps) w o) before after f → Fails (task_of by_text w o) before after f
   fails w None f h = h

@@ -17,6 +17,7 @@ use Rattle.folders.specs.FileSystem.{text_at}
 use Rattle.edit_lines.specs.Pieces.{lines_of}
 use Rattle.edit_lines.specs.Faults.{AreLines, Faults, replay_view}
 use Rattle.edit_lines.specs.Replay.{Finished, Replays}
+use Rattle.requests.specs.Acts.{exits}
 use Rattle.requests.specs.Programs.{Program, Task}
 use Rattle.cpmrun.specs.AreWords.{AreWords}
 use Rattle.cpmrun.specs.RunEnds.{run_once}
@@ -62,11 +63,10 @@ replay_edits IsReplayed w path = record {
   session = session_words w;
   Refuses = λ fault. ⊥;
   Allows = Unit {0};
-  act = λ s listings. record {
+  act = λ s listings status. exits status 0 (record {
     Does = λ before after. (after.err ≡ before.err) × (after.files.bytes ≡ before.files.bytes) × IsReplayed w s (text_at before.files.bytes path) before.out after.out;
     Leaves = λ before after fault. BreaksReplay path (text_at before.files.bytes path) s before.out after.out fault × (after.files.bytes ≡ before.files.bytes);
-  };
-  status = λ s. 0;
+  });
 }
 
 -- The words ask for that if they name edit lines, and otherwise for one run.

@@ -7,7 +7,8 @@ use Rattle.command_words.specs.RunLine.{session_words}
 use Rattle.command_words.specs.declared.clashes.Clash.{Clash}
 use Rattle.command_words.specs.declared.words.Words.{Words}
 use Rattle.disks.specs.Given.{AreGiven, IsAnyReadFault}
-use Rattle.folders.specs.FileSystem.{FileBytes, IsFree, Path}
+use Rattle.folders.specs.FileSystem.{IsKindAt, Path, StoredFiles}
+use Rattle.folders.specs.declared.file_system.Kind.TheVariants.{Other}
 use Rattle.folders.specs.declared.listing.Listing.{Listing}
 use Rattle.machine.specs.Inputs.{Session}
 use Rattle.make_rules.specs.RefusedPaths.{refuses_rule}
@@ -62,20 +63,21 @@ chosen (Some target) paths = target.now ∷ []
 abbrev pub targets_of : Words → Path → List Path → List Path
 targets_of w path written = chosen w.target (or_rule path written)
 
+-- The path to which a report is written. `-` means standard output.
+abbrev pub stream_path : Path → Path
+stream_path path = if bytes_eq path (codes "-") then codes "/dev/stdout" else path
+
 -- The rule that the words ask for, of a run that puts these files in place; or none.
 abbrev pub IsRuleAt : Words → List (Option Listing) → List Path → Session → Option (Bor Path) → Option Told → Type 0
 IsRuleAt w listings written s None None = Unit {0}
 IsRuleAt w listings written s None (Some report) = ⊥
 IsRuleAt w listings written s (Some path) None = ⊥
-IsRuleAt w listings written s (Some path) (Some (p, text)) = (p ≡ path.now) × IsRule (session_words w) (targets_of w path.now written) listings s text
+IsRuleAt w listings written s (Some path) (Some (p, text)) = (p ≡ stream_path path.now) × IsRule (session_words w) (targets_of w path.now written) listings s text
 
 abbrev pub IsRuleOf : Words → List (Option Listing) → List Path → Session → Option Told → Type 0
 IsRuleOf w listings written s rule = IsRuleAt w listings written s w.deps rule
 
--- The path to which the trace is written, if the words ask for one: for `-` it is that of standard output.
-abbrev pub stream_path : Path → Path
-stream_path path = if bytes_eq path (codes "-") then codes "/dev/stdout" else path
-
+-- The path to which the trace is written, if the words ask for one.
 abbrev pub trace_path : Words → Option Path
 trace_path w = option_map (λ path. stream_path path.now) w.trace
 
@@ -88,10 +90,10 @@ abbrev pub report_part : Bool → Option Told → List Wanted
 report_part true (Some (path, text)) = wanted path None (Some text) ∷ []
 report_part planned report = []
 
--- No regular file is at the path of a report.
-abbrev pub IsElsewhere : Option Told → Option FileBytes → Type 0
+-- Neither a regular file nor nothing is at the path of a report, but a device, a pipe or a link, if the files are known.
+abbrev pub IsElsewhere : Option Told → StoredFiles → Type 0
 IsElsewhere None files = Unit {0}
-IsElsewhere (Some (path, text)) files = IsFree path files
+IsElsewhere (Some (path, text)) files = IsKindAt files path Other
 
 -- An error of making a plan: what is at a path could not be found, or no temporary path is free, or an allocation failed.
 abbrev pub IsPlanFault : Fault → Type 0

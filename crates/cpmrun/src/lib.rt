@@ -2,6 +2,7 @@
 //!
 //! - `request`: the request in the words of the command line
 //! - `word_run`, `reports`: one run of the session of the words; what it reports into files
+//! - `disks_after`: what disks need before they are changed, what becomes of them, and which folders are synced
 //! - `command_line`: the command
 //!
 //! `command` takes a `FileSystem` instead of the runtime, so that its contract can name the files; `main` passes `SystemFiles`. What
@@ -9,6 +10,7 @@
 #![tactic(auto)]
 
 mod command_line;
+mod disks_after;
 mod reports;
 mod request;
 mod word_run;

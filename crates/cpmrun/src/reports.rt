@@ -5,9 +5,9 @@ ghost use Rattle.std.specs.List.{list_all};
 ghost use Rattle.dependencies.specs.Dependencies.{AreDependencies};
 ghost use Rattle.disks.specs.Given.{IsAnyReadFault};
 ghost use Rattle.folders.specs.ChangedBytes.{written_bytes};
-ghost use Rattle.folders.specs.Failures.{KeepsFiles, ReportsPaths};
+ghost use Rattle.folders.specs.Failures.{KeepsFiles, ReportsPaths, io_paths};
 ghost use Rattle.folders.specs.Faults.{FailsBy, failure_paths};
-ghost use Rattle.folders.specs.FileSystem.{IsFree};
+ghost use Rattle.folders.specs.FileSystem.{Becomes, IsKindAt};
 ghost use Rattle.make_rules.specs.Carried.{is_carried};
 ghost use Rattle.plan.specs.Faults.{IsAnyWriteFault};
 ghost use Rattle.plan.specs.Wanted.{wanted_of};
@@ -24,6 +24,8 @@ use make_rules::rule_of_run;
 use plan::{Before, Deed, Plan};
 use requests::{Fault, taken_fault};
 use std::alloc::{AllocError, Global};
+use std::io;
+use streams::write_all;
 
 /// A rule for make, which is written to a file of the words.
 #[derive(Drop)]
@@ -72,6 +74,13 @@ fn targets(
     Ok(targets)
 }
 
+/// Returns the path to which a report is written. `-` means standard output.
+pub fn stream_path(path: &str) -> &str
+    ensures { result.now ≡ reports.stream_path path.now }
+{
+    if path == "-" { "/dev/stdout" } else { path }
+}
+
 /// Returns the rule for make of a run that puts these files in place, if the words ask for one.
 pub fn rule_report<'a>(
     alloc: Global,
@@ -93,6 +102,7 @@ pub fn rule_report<'a>(
     };
     let targets = targets(alloc, words, path, written)?;
     let text = rule_of_run(alloc, targets.as_slice(), &words.session(), listings, run)?;
+    let path = stream_path(path);
     Ok(Some(Report { path, text }))
 }
 
@@ -101,11 +111,20 @@ pub fn rule_report<'a>(
 pub enum Placing {
     /// As a part of the plan.
     InPlan,
-    /// Through what is at its path: a device or a pipe, or a link, which leads to this file or to nothing.
+    /// Through what is at its path: a device or a pipe, a link, which leads to this file or to nothing, or a standard stream.
     Through(Option<Id>),
 }
 
-/// Plans a report, if what is at its path is a regular file, or nothing. Returns how it is to be written.
+// Returns whether no regular file is at a path, but something else, or the path leads to a standard stream.
+fn is_elsewhere<S: FileSystem>(system: &mut S, path: &str) -> io::Result<bool>
+    ensures elsewhere { IfOk result (λ is. is ≡ true
+        → IsKindAt (S.files system.old) path.now Kind.Other) }
+    ensures unchanged { KeepsFiles (io_paths path.now) result (S.files system.old) (S.files system.new) }
+{
+    Ok(system.is_stream(path)? || system.kind(path)? == Kind::Other)
+}
+
+/// Plans a report, if what is at its path is a regular file, or nothing, and it leads to no standard stream. Returns how it is to be written.
 pub fn plan_report<'p, S: FileSystem>(
     system: &mut S,
     plan: &mut Plan<'p, Written<'p>>,
@@ -115,7 +134,7 @@ pub fn plan_report<'p, S: FileSystem>(
         ≡ map (wanted_of written_bytes) plan.old.deeds.items
         ++ reports.report_part (reports.is_in_plan placing) (option_map reports.told report.entry.now)) }
     ensures apart { IfOk result (λ placing. reports.is_in_plan placing ≡ false
-        → reports.IsElsewhere (option_map reports.told report.entry.now) (S.files system.old).bytes) }
+        → reports.IsElsewhere (option_map reports.told report.entry.now) (S.files system.old)) }
     ensures fault { IfErr result (FailsBy IsAnyWriteFault) }
     ensures unchanged { KeepsFiles failure_paths result (S.files system.old) (S.files system.new) }
 {
@@ -125,12 +144,12 @@ pub fn plan_report<'p, S: FileSystem>(
     let Ok(path) = String::from_str(system.alloc(), report.path) else {
         return Err(Failure::OutOfMemory);
     };
-    match system.kind(report.path) {
-        Ok(Kind::Other) => match system.id(report.path) {
+    match is_elsewhere(system, report.path) {
+        Ok(true) => match system.id(report.path) {
             Ok(file) => Ok(Placing::Through(file)),
             Err(error) => Err(write_failure(error, path)),
         },
-        Ok(_) => {
+        Ok(false) => {
             plan.put(
                 system,
                 path,
@@ -143,14 +162,14 @@ pub fn plan_report<'p, S: FileSystem>(
     }
 }
 
-/// Writes a report that is not planned through what is at its path, if this is still no regular file and, if it is a link, leads to the same
-/// file or to nothing: the run may have made one there.
+/// Writes a report that is not planned into what is at its path, if this is still no regular file and, if it is a link, leads to the same
+/// file or to nothing: the run may have made one there. If it leads to standard output or standard error, the report goes there.
 pub fn write_report<S: FileSystem>(
     system: &mut S,
     report: &Option<Report<'_>>,
     placing: Placing,
 ) -> Result<(), Failure>
-    ensures bytes { (S.files system.new).bytes ≡ (S.files system.old).bytes }
+    ensures bytes { Becomes (S.files system.old).bytes (S.files system.new).bytes (λ stored. stored) }
     ensures fault { IfErr result (FailsBy IsAnyWriteFault) }
     ensures failed { ReportsPaths failure_paths result (S.files system.old) (S.files system.new) }
 {
@@ -164,24 +183,28 @@ pub fn write_report<S: FileSystem>(
         Ok(found) => found,
         Err(error) => return Err(write_failure(error, path)),
     };
-    match system.kind(report.path) {
-        Ok(Kind::Other) if found == file => write_into(system, path, report.text.as_slice()),
-        Ok(_) => Err(Failure::AtFault(FolderFault::Changed(path))),
+    let is_elsewhere = match is_elsewhere(system, report.path) {
+        Ok(is_elsewhere) => is_elsewhere,
+        Err(error) => return Err(write_failure(error, path)),
+    };
+    if !is_elsewhere || found != file {
+        return Err(Failure::AtFault(FolderFault::Changed(path)));
+    }
+    match write_into(system, report.path, report.text.as_slice()) {
+        Ok(()) => Ok(()),
         Err(error) => Err(write_failure(error, path)),
     }
 }
 
-// Writes a text into what is at a path and is no regular file.
-fn write_into<S: FileSystem>(system: &mut S, path: String, text: &[u8]) -> Result<(), Failure>
-    requires { IsFree (string_bytes path) (S.files system.old).bytes }
-    ensures bytes { (S.files system.new).bytes ≡ (S.files system.old).bytes }
-    ensures fault { IfErr result (FailsBy IsAnyWriteFault) }
-    ensures failed { ReportsPaths failure_paths result (S.files system.old) (S.files system.new) }
+// Writes a text into what is at a path and is no regular file, or to the standard stream to which it leads.
+fn write_into<S: FileSystem>(system: &mut S, path: &str, text: &[u8]) -> io::Result<()>
+    requires { IsKindAt (S.files system.old) path.now Kind.Other }
+    ensures bytes { Becomes (S.files system.old).bytes (S.files system.new).bytes (λ stored. stored) }
+    ensures failed { ReportsPaths (io_paths path.now) result (S.files system.old) (S.files system.new) }
 {
-    match system.write_into(path.as_str(), &Written::Text(text)) {
-        Ok(()) => Ok(()),
-        Err(error) => Err(write_failure(error, path)),
-    }
+    let mut output = system.create(path)?;
+    let _ = write_all(&mut output, text);
+    system.close(path, output)
 }
 
 // Returns whether the file at a path is the file of a deed.
@@ -215,7 +238,7 @@ fn check_unread<'a, S: FileSystem>(
     let Some(path) = report else {
         return Ok(());
     };
-    if report_taken(system, words, listings, path)? {
+    if report_taken(system, words, listings, stream_path(path))? {
         let reason = "the run reads this file";
         return Err(taken_fault(system.alloc(), path, option, reason));
     }
@@ -231,7 +254,8 @@ fn check_trace<'a, S: FileSystem>(system: &mut S, words: &Words<'_>) -> Result<(
     let Some(path) = words.trace else {
         return Ok(());
     };
-    if may_be_written(system, words, path)? || leads_to_written(system, words, path)? {
+    let at = stream_path(path);
+    if may_be_written(system, words, at)? || leads_to_written(system, words, at)? {
         let reason = "the run may change a file of this name";
         return Err(taken_fault(system.alloc(), path, "--trace <FILE>", reason));
     }
@@ -253,7 +277,7 @@ pub fn check_reports<'a, S: FileSystem>(
     let (Some(deps), Some(trace)) = (words.deps, words.trace) else {
         return Ok(());
     };
-    if is_one_file(system, deps, trace)? {
+    if is_one_file(system, stream_path(deps), stream_path(trace))? {
         let reason = "it is the file of '--trace <FILE>'";
         return Err(taken_fault(system.alloc(), deps, "--deps <FILE>", reason));
     }
@@ -273,7 +297,7 @@ fn check_unchanged<'a, S: FileSystem>(
     let Some(path) = report else {
         return Ok(());
     };
-    if is_changed(system, deeds, path)? {
+    if is_changed(system, deeds, stream_path(path))? {
         let reason = "the run changes this file";
         return Err(taken_fault(system.alloc(), path, option, reason));
     }

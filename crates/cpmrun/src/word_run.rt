@@ -22,54 +22,36 @@ ghost use Rattle.cpmrun.specs.Reports as reports;
 ghost use Rattle.cpmrun.specs.Reports.{AllowsRule, IsEarly, written_folders};
 ghost use Rattle.cpmrun.specs.RunEnds as run_ends;
 
+use crate::disks_after::{
+    Unsynced, check_disks, disks_after, exit_status, looked_for, sync_drives, unsynced_folders,
+};
 use crate::reports::{
     Placing, Report, check_changes, check_reports, plan_report, push_paths, rule_report,
-    write_report,
+    stream_path, write_report,
 };
 use command_words::Words;
-use disks::{lock_disks, same_folders};
-use folders::{
-    DriveFolder, Failure, Fault as FolderFault, FileSystem, Listing, Places, Written, write_failure,
-};
-use loading::{Loaded, load};
-use machine::{Cause, Noting, Session, WholeRun};
+use disks::{has_disks, lock_disks, same_folders};
+use folders::{DriveFolder, Failure, FileSystem, Listing, Places, Written, write_failure};
+use loading::{Loaded, load_with, read_inputs};
+use machine::{Noting, Session, WholeRun};
 use make_rules::check_paths;
 use one_run::{
-    Disks, Entry, RunFault, Start, Turn, changed_entries, each_call, first_unplaced,
-    is_any_on_disk, no_step, plan_turn, report_stop, run_to_end, stop_status,
+    Disks, Entry, Report as StopReport, RunFault, Start, Turn, changed_entries, each_call,
+    is_any_on_disk, left_paths, no_step, plan_turn, report_stop, run_to_end,
 };
-use plan::{Deed, Plan, carry_out, carry_out_each};
+use plan::{Deed, Durable, Plan, carry_out, carry_out_each};
 use requests::{Fault, Tool, clash_fault};
 use std::alloc::{AllocError, Global};
 use streams::{Nowhere, Writer};
 
-// Returns what a run notes: what it asks for, if a rule for make is written.
+// Returns what a run notes: what it asks for, if a rule for make is written, or if it has disks.
 fn noting_of(words: &Words<'_>) -> Noting
-    ensures { is_some words.now.deps ≡ true → result ≡ Noting.Looks }
+    ensures { run_ends.notes_looks words.now ≡ true → result ≡ Noting.Looks }
 {
-    match words.deps {
-        Some(_) => Noting::Looks,
-        None => Noting::Nothing,
-    }
-}
-
-// Returns whether a drive has a disk.
-fn has_disks(words: &Words<'_>) -> bool
-    ensures { result ≡ run_ends.has_disks words.now }
-{
-    words.disk.iter().any(|disk| disk.is_some())
-}
-
-// Returns what becomes of the disks after a run that stopped by this cause.
-fn disks_after(words: &Words<'_>, cause: Cause) -> Disks
-    ensures { result ≡ run_ends.disks_after words.now cause }
-{
-    if !has_disks(words) {
-        Disks::Absent
-    } else if words.partial || matches!(cause, Cause::WarmBoot) {
-        Disks::Changed
+    if words.deps.is_some() || has_disks(words) {
+        Noting::Looks
     } else {
-        Disks::Unchanged
+        Noting::Nothing
     }
 }
 
@@ -94,14 +76,11 @@ fn fault_of<'a>(words: &Words<'_>, fault: RunFault) -> Fault<'a>
     }
 }
 
-// Returns the path to which the trace is written, if the words ask for one. `-` is standard output.
+// Returns the path to which the trace is written, if the words ask for one.
 fn trace_path<'a>(words: &Words<'a>) -> Option<&'a str>
     ensures { option_map (λ path. path.now) result ≡ reports.trace_path words.now }
 {
-    match words.trace {
-        Some("-") => Some("/dev/stdout"),
-        path => path,
-    }
+    Some(stream_path(words.trace?))
 }
 
 // Runs a session to its end, and writes its console text.
@@ -142,11 +121,11 @@ fn run_traced<'s, 'a, S: FileSystem, O: Writer, E: Writer>(
     ensures done { OnOk result
         (WritesWhole (O.output out.old) (O.output out.new) (console_text start.entry.session.now)) }
     ensures trace { let text = trace_text each_call start.entry.session.now in
-        OnOk result (HasBytes path.now text (S.files system.old).bytes (S.files system.new).bytes) }
+        OnOk result (HasBytes path.now text (S.files system.old) (S.files system.new)) }
     ensures fault { IfErr result (run_ends.BreaksConsole words.now (console_text start.entry.session.now)
         (O.output out.old) (O.output out.new)) }
     ensures part { let text = trace_text each_call start.entry.session.now in OnErr result
-        (run_ends.BreaksTrace (Some path.now) text (S.files system.old).bytes (S.files system.new).bytes) }
+        (run_ends.BreaksTrace (Some path.now) text (S.files system.old) (S.files system.new)) }
     ensures err { E.output err.new ≡ E.output err.old }
     ensures failed { ReportsPaths file_paths result (S.files system.old) (S.files system.new) }
 {
@@ -174,16 +153,16 @@ fn run_streams<'s, 'a, S: FileSystem, O: Writer, E: Writer>(
     err: &mut E,
 ) -> Result<WholeRun<'s>, Fault<'a>>
     ensures session { IfOk result (λ w. w.session.now ≡ session.now) }
-    ensures asked { is_some words.now.deps ≡ true
+    ensures asked { run_ends.notes_looks words.now ≡ true
         → IfOk result (λ w. AreDependencies session.now w.looks w.steps w.cause) }
     ensures done { OnOk result
         (WritesWhole (O.output out.old) (O.output out.new) (console_text session.now)) }
     ensures trace { let text = trace_text each_call session.now in OnOk result (run_ends.WritesTrace
-        (reports.trace_path words.now) text (S.files system.old).bytes (S.files system.new).bytes) }
+        (reports.trace_path words.now) text (S.files system.old) (S.files system.new)) }
     ensures fault { IfErr result
         (run_ends.BreaksConsole words.now (console_text session.now) (O.output out.old) (O.output out.new)) }
     ensures part { let text = trace_text each_call session.now in OnErr result (run_ends.BreaksTrace
-        (reports.trace_path words.now) text (S.files system.old).bytes (S.files system.new).bytes) }
+        (reports.trace_path words.now) text (S.files system.old) (S.files system.new)) }
     ensures err { E.output err.new ≡ E.output err.old }
     ensures failed { ReportsPaths file_paths result (S.files system.old) (S.files system.new) }
 {
@@ -218,58 +197,42 @@ fn plan_on_disks<'p, S: FileSystem>(
     }
 }
 
-// Returns the paths of the disks on which something is to be done.
-fn changed_disks(
-    alloc: Global,
-    words: &Words<'_>,
-    disks: Disks,
-    entries: &[Entry<'_>],
-) -> Result<Vec<String>, AllocError> {
-    let mut folders = Vec::new(alloc);
-    if !matches!(disks, Disks::Changed) || !is_any_on_disk(entries) {
-        return Ok(folders);
-    }
-    for folder in words.disk {
-        if let Some(folder) = folder {
-            folders.push(String::from_str(alloc, folder)?)?;
-        }
-    }
-    Ok(folders)
-}
-
-// Does what is planned: files outside of disks are written one after another, and then the plan for disks is done as a whole. A rule for what
-// is no regular file is written last.
+// Does what is planned: files outside of disks are written one after another, and then the plan for disks is done as a whole. If a disk is
+// changed, the folders in which these files are changed are synced, those outside of disks before anything is done on a disk. Returns for
+// which this failed.
 fn carry_out_plans<'a, S: FileSystem>(
     system: &mut S,
+    words: &Words<'_>,
     outside: Plan<'_, Written<'_>>,
     plan: Plan<'_, Written<'_>>,
-    folders: Vec<String>,
-    rule: &Option<Report<'_>>,
-    placing: Placing,
-) -> Result<(), Fault<'a>>
+    synced: &[Entry<'_>],
+) -> Result<Unsynced, Fault<'a>>
     ensures done { OnOk result (run_ends.CarriesPlan
         (run_ends.asked outside.entry.deeds.items) (run_ends.asked plan.entry.deeds.items)
         (S.files system.old).bytes (S.files system.new).bytes (Ok tt)) }
-    ensures fault { IfErr result (run_ends.BreaksPlan
+    ensures fault { IfErr result (run_ends.BreaksOff
         (run_ends.asked outside.entry.deeds.items) (run_ends.asked plan.entry.deeds.items)
         (S.files system.old).bytes (S.files system.new).bytes) }
     ensures failed { ReportsPaths file_paths result (S.files system.old) (S.files system.new) }
 {
-    carry_out_each(system, outside)?;
-    carry_out(system, plan, folders)?;
-    write_report(system, rule, placing)?;
-    Ok(())
+    let durable = if synced.is_empty() {
+        Durable::Expected
+    } else {
+        Durable::All
+    };
+    carry_out_each(system, outside, durable)?;
+    let out = sync_drives(system, &words.out, synced);
+    carry_out(system, plan)?;
+    let disks = sync_drives(system, &words.disk, synced);
+    Ok(Unsynced { out, disks })
 }
 
-// Checks that each changed file has a place, if disks are changed. Else a file that the program moved to a drive without one would be lost.
-fn check_places<'a>(disks: Disks, entries: &[Entry<'_>]) -> Result<(), Fault<'a>>
-    ensures placed { OnOk result (disks ≡ Disks.Changed
-        → first_unplaced (map changed_by entries.now) ≡ None) }
-    ensures fault { IfErr result (run_ends.IsUnplaced disks (map changed_by entries.now)) }
-{
-    match (disks, first_unplaced(entries)) {
-        (Disks::Changed, Some(name)) => Err(Fault::Folders(FolderFault::NoFolder(name))),
-        _ => Ok(()),
+// Returns the changed files whose folders are synced: none if no disk is changed.
+fn synced<'e, 'r>(disks: Disks, entries: &'r [Entry<'e>]) -> &'r [Entry<'e>] {
+    if matches!(disks, Disks::Changed) && is_any_on_disk(entries) {
+        entries
+    } else {
+        &[]
     }
 }
 
@@ -288,7 +251,8 @@ fn written_paths(
     Ok(paths)
 }
 
-// Changes the files as the run asks, and writes its rule. All is planned before the first of them is changed.
+// Changes the files as the run asks, and writes its rule. All is planned before the first of them is changed. Returns the folders that were
+// not synced.
 fn change<'a, S: FileSystem>(
     system: &mut S,
     words: &Words<'_>,
@@ -296,23 +260,22 @@ fn change<'a, S: FileSystem>(
     disks: Disks,
     entries: &[Entry<'_>],
     run: &WholeRun<'_>,
-) -> Result<(), Fault<'a>>
+) -> Result<Unsynced, Fault<'a>>
     requires carried { is_some words.now.deps ≡ true → list_all is_carried
         (reports.put_paths (run_ends.puts disks (map changed_by entries.now))) ≡ true }
     requires words { AllowsRule words.now }
     requires run { is_some words.now.deps ≡ true
         → AreDependencies run.now.session.now run.now.looks run.now.steps run.now.cause }
     ensures done { OnOk result (run_ends.ChangesFiles words.now listings.now run.now.session.now
-        disks (map changed_by entries.now) (S.files system.old).bytes (S.files system.new).bytes) }
+        disks (map changed_by entries.now) (S.files system.old) (S.files system.new).bytes) }
     ensures fault { IfErr result (run_ends.BreaksChanges words.now listings.now run.now.session.now
-        disks (map changed_by entries.now) (S.files system.old).bytes (S.files system.new).bytes) }
+        disks (map changed_by entries.now) (S.files system.old) (S.files system.new).bytes) }
     ensures failed { ReportsPaths file_paths result (S.files system.old) (S.files system.new) }
 {
-    check_places(disks, entries)?;
     let rule;
     let mut outside = Plan::new(system.alloc());
     plan_turn(system, &mut outside, Turn::Outside, entries)?;
-    let mut plan = Plan::new(system.alloc());
+    let mut plan = Plan::avoiding(system.alloc(), words.deps);
     plan_on_disks(system, &mut plan, disks, Turn::New, entries)?;
     plan_on_disks(system, &mut plan, disks, Turn::Replacing, entries)?;
     check_changes(system, words, outside.deeds.as_slice())?;
@@ -322,8 +285,9 @@ fn change<'a, S: FileSystem>(
     rule = rule_report(alloc, words, listings, written, run)?;
     let placing = plan_report(system, &mut plan, &rule)?;
     plan_on_disks(system, &mut plan, disks, Turn::Gone, entries)?;
-    let folders = changed_disks(alloc, words, disks, entries)?;
-    carry_out_plans(system, outside, plan, folders, &rule, placing)
+    let unsynced = carry_out_plans(system, words, outside, plan, synced(disks, entries))?;
+    write_report(system, &rule, placing)?;
+    Ok(unsynced)
 }
 
 // Runs a session that was loaded once, and reports its stop. Returns the exit status for the stop.
@@ -335,12 +299,12 @@ fn run_loaded<'r, 'a, S: FileSystem, O: Writer, E: Writer>(
     err: &mut E,
 ) -> Result<u8, Fault<'a>>
     requires { AllowsRule words.now }
-    ensures done { IfOk result (λ status. (status ≡ stop_status (plain_run loaded.now.session).cause)
-        × (run_ends.run words.now loaded.now.listings loaded.now.session).Does
+    ensures done { IfOk result (λ status.
+        (run_ends.run words.now loaded.now.listings loaded.now.session status).Does
         (world (S.files system.old) (O.output out.old) (E.output err.old))
         (world (S.files system.new) (O.output out.new) (E.output err.new))) }
     ensures fault { IfErr result (λ fault. (old new : Output) →
-        (run_ends.run words.now loaded.now.listings loaded.now.session).Leaves
+        (run_ends.run words.now loaded.now.listings loaded.now.session 0).Leaves
         (world (S.files system.old) (O.output out.old) old)
         (world (S.files system.new) (O.output out.new) new) fault) }
     ensures unreported { OnErr result (E.output err.new ≡ E.output err.old) }
@@ -348,14 +312,17 @@ fn run_loaded<'r, 'a, S: FileSystem, O: Writer, E: Writer>(
 {
     check_reports(system, words, &loaded.listings)?;
     let run = run_streams(system, words, &loaded.session, out, err)?;
-    let disks = disks_after(words, run.cause());
+    let (cause, looked) = (run.cause(), looked_for(words, &run));
+    let disks = disks_after(words, cause, looked);
     let places = Places {
         out: words.out,
         disks: DriveFolder::with_names(&words.disk, &loaded.listings),
     };
     let alloc = system.alloc();
     let entries = changed_entries(alloc, &places, run.session.files(), run.journal())?;
-    change(
+    let left = left_paths(alloc, &places.disks)?;
+    check_disks(system, disks, &places.disks, entries.as_slice())?;
+    let unsynced = change(
         system,
         words,
         &loaded.listings,
@@ -363,22 +330,40 @@ fn run_loaded<'r, 'a, S: FileSystem, O: Writer, E: Writer>(
         entries.as_slice(),
         &run,
     )?;
-    report_stop(run.cause(), disks, entries.as_slice(), err);
-    Ok(stop_status(run.cause()))
+    let unsynced = unsynced_folders(words, unsynced);
+    let report = StopReport {
+        cause,
+        disks,
+        looked,
+        left: left.as_slice(),
+        unsynced,
+    };
+    report_stop(&report, entries.as_slice(), err);
+    Ok(exit_status(cause, looked, &unsynced))
 }
 
-// Checks that no two folders are the same of which one is written, and locks the disks.
-fn lock_folders<'a, S: FileSystem>(
-    system: &mut S,
-    words: &Words<'a>,
-) -> Result<Vec<S::Lock>, Fault<'a>>
+// Checks that no two folders are the same of which one is written.
+fn check_folders<'a, S: FileSystem>(system: &mut S, words: &Words<'_>) -> Result<(), Fault<'a>>
     ensures fault { IfErr result (IsEarly words.now) }
     ensures unchanged { KeepsFiles file_paths result (S.files system.old) (S.files system.new) }
 {
-    if let Some(clash) = same_folders(system, words)? {
-        return Err(clash_fault(system.alloc(), Tool::Cpmrun, clash));
+    match same_folders(system, words)? {
+        Some(clash) => Err(clash_fault(system.alloc(), Tool::Cpmrun, clash)),
+        None => Ok(()),
     }
-    Ok(lock_disks(system, words)?)
+}
+
+// Locks the disks.
+fn lock<'a, S: FileSystem, E: Writer>(
+    system: &mut S,
+    words: &Words<'_>,
+    err: &mut E,
+) -> Result<Vec<S::Lock>, Fault<'a>>
+    ensures fault { IfErr result (IsEarly words.now) }
+    ensures unchanged { KeepsFiles file_paths result (S.files system.old) (S.files system.new) }
+    ensures err { E.output err.new ≡ E.output err.old }
+{
+    Ok(lock_disks(system, words, err)?)
 }
 
 // Returns the folders that are written: those for changed files, and the disks.
@@ -412,7 +397,7 @@ fn check_rule<'a>(alloc: Global, words: &Words<'a>) -> Result<(), Fault<'a>>
 
 /// Runs the session of the words once. Its console text is written to `out` while it runs. Then its files are changed as a whole: on the
 /// disks only if it stopped by the warm start, or if the words ask for it whatever the stop. Then `err` gets the lines about its stop. The
-/// disks are locked until then. Returns the exit status for the stop.
+/// disks are locked until then, but only once the script is read, which another run may write. Returns the exit status.
 ///
 /// # Errors
 ///
@@ -434,7 +419,9 @@ pub fn run_words<'a, S: FileSystem, O: Writer, E: Writer>(
     ensures failed { ReportsPaths file_paths result (S.files system.old) (S.files system.new) }
 {
     check_rule(system.alloc(), words)?;
-    let _locks = lock_folders(system, words)?;
-    let loaded = load(system, &words.session())?;
+    check_folders(system, words)?;
+    let inputs = read_inputs(system, &words.session())?;
+    let _locks = lock(system, words, err)?;
+    let loaded = load_with(system, &words.session(), inputs)?;
     run_loaded(system, words, &loaded, out, err)
 }

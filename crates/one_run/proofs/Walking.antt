@@ -1,5 +1,5 @@
 -- The changed files of a run, one after another.
-use Rattle.std.proofs.Common.{◌≡◌, ◌++◌, ◌∷◌, [], ◌∙◌, ◌||◌, ◌<◌, ◌+◌, ℕ, Bool, true, false, List, Option, Some, ap, append-nil, append_assoc, cond, get_or, length, map, option_map, refl, sym, take}
+use Rattle.std.proofs.Common.{◌≡◌, ◌++◌, ◌∷◌, [], ◌∙◌, ◌||◌, ◌<◌, ◌+◌, ℕ, Bool, true, false, List, Some, ap, append-nil, append_assoc, cond, get_or, length, map, option_map, refl, sym, take}
 use Rattle.std.specs.FinMap.{contains_key}
 use Rattle.std.specs.List.{find, flat_map, list_any}
 use Rattle.std.proofs.lemmas.Grind.{flat_map-append}

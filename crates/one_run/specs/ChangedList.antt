@@ -10,11 +10,10 @@ use Rattle.folders.specs.declared.places.Places.{Places}
 use Rattle.hostfiles.specs.FileView.{is_view_there}
 use Rattle.hostfiles.specs.Hosts.{Host}
 use Rattle.hostfiles.specs.Names.{Key}
-use Rattle.machine.specs.Cause.{Cause}
 use Rattle.machine.specs.ChangedFiles.{changed_keys_in, contents_in}
 use Rattle.machine.specs.PlainFiles.{Files}
 use Rattle.plan.specs.Wanted.{Expected, Wanted, expected_of, wanted}
-use Rattle.report_lines.specs.FirstLines.{line, stop_line}
+use Rattle.report_lines.specs.FirstLines.{line}
 use Rattle.one_run.specs.declared.changed.Entry.{Entry}
 use Rattle.one_run.specs.declared.planning.Turn.{Turn}
 use Rattle.one_run.specs.declared.planning.Turn.TheVariants.{Outside, New, Replacing, Gone}
@@ -126,8 +125,3 @@ unchanged_line disks cs = []
 abbrev pub unwritten_lines : Disks → List Changed → List ℕ
 unwritten_lines Absent cs = []
 unwritten_lines disks cs = unplaced_lines cs
-
--- The lines after a run: of its stop, of unchanged disks, of the changed files that are gone, and, if there are disks, of the ones that have no
--- place.
-abbrev pub stop_lines : Disks → Cause → List Changed → List ℕ
-stop_lines disks cause cs = stop_line cause ++ unchanged_line disks cs ++ gone_lines disks cs ++ unwritten_lines disks cs

@@ -26,8 +26,8 @@ pub enum Turn {
     Gone,
 }
 
-// Returns whether this is the turn of a file that is there or gone, by what is expected at its path.
-fn is_turn(turn: Turn, there: bool, before: &Before<'_>) -> bool
+/// Returns whether this is the turn of a file that is there or gone, by what is expected at its path.
+pub(crate) fn is_turn(turn: Turn, there: bool, before: &Before<'_>) -> bool
     ensures { result ≡ list.is_turn turn there (expected_of before.now) }
 {
     match (turn, there, before) {

@@ -1,14 +1,17 @@
 // How a run ended, and what became of its files.
 
-ghost use Rattle.std.specs.Prelude.{◌≡◌, map};
+ghost use Rattle.std.specs.Prelude.{◌≡◌, map, string_bytes};
 ghost use Rattle.streams.specs.Pushing.{more};
 ghost use Rattle.streams.specs.Streams.{WritesOrFails};
 ghost use Rattle.one_run.specs.ChangedList as list;
+ghost use Rattle.one_run.specs.StopLines as lines;
 ghost use Rattle.one_run.specs.RunTexts.{stop_status};
 
 use crate::changed::{Entry, is_any_on_disk};
+use faults::push_shown;
+use itoa::Buffer;
 use machine::Cause;
-use report_lines::{push_named, stop_line};
+use report_lines::{push_named, stop_line, word_digits};
 use streams::{Text, TextOver, Writer};
 
 /// What became of the disks of a run.
@@ -21,6 +24,24 @@ pub enum Disks {
     /// They have what the run changed.
     Changed,
 }
+
+/// What a run reports about its end beside its changed files.
+#[derive(Clone, Copy)]
+pub struct Report<'r, 'w> {
+    /// Why it stopped.
+    pub cause: Cause,
+    /// What became of its disks.
+    pub disks: Disks,
+    /// The cell at which it looked for the BIOS before its warm start, if it has disks.
+    pub looked: Option<u16>,
+    /// The paths of what ended runs left on its disks.
+    pub left: &'r [String],
+    /// The changed folders whose names may not outlast a power failure.
+    pub unsynced: [Option<&'w str>; 8],
+}
+
+/// How many of the paths are named that ended runs left.
+const NAMED: usize = 3;
 
 /// Returns the exit status for a run that stopped by this cause.
 pub fn stop_status(cause: Cause) -> u8
@@ -91,30 +112,103 @@ fn push_unplaced<X: Text>(text: &mut X, entries: &[Entry<'_>])
     }
 }
 
-// Appends the line of the stop of a run, a line if a changed file is on an unchanged disk, the lines of the changed files that are gone, and,
-// if there are disks, of the ones that were not written.
-fn push_stop<X: Text>(text: &mut X, cause: Cause, disks: Disks, entries: &[Entry<'_>])
+// Appends the lines of the changed files that were not written, if there are disks.
+fn push_unwritten<X: Text>(text: &mut X, disks: Disks, entries: &[Entry<'_>])
     ensures { X.pushed text.new ≡ more (X.pushed text.old)
-        (list.stop_lines disks cause (map list.changed_by entries.now)) }
+        (list.unwritten_lines disks (map list.changed_by entries.now)) }
 {
-    text.push(stop_line(cause).as_bytes());
-    if matches!(disks, Disks::Unchanged) && is_any_on_disk(entries) {
-        text.push(b"disk unchanged\n");
-    }
-    push_gone(text, disks, entries);
     if !matches!(disks, Disks::Absent) {
         push_unplaced(text, entries);
     }
 }
 
-/// Reports on standard error why a run stopped, whether the disks are unchanged, which of the changed files are gone, and which were not
-/// written. A failure of the writer ends this, and is ignored.
-pub fn report_stop<E: Writer>(cause: Cause, disks: Disks, entries: &[Entry<'_>], err: &mut E)
+// Appends a line if a changed file is on an unchanged disk.
+fn push_if_unchanged<X: Text>(text: &mut X, disks: Disks, entries: &[Entry<'_>])
+    ensures { X.pushed text.new ≡ more (X.pushed text.old)
+        (list.unchanged_line disks (map list.changed_by entries.now)) }
+{
+    if matches!(disks, Disks::Unchanged) && is_any_on_disk(entries) {
+        text.push(b"disk unchanged\n");
+    }
+}
+
+// Appends the line of a cell at which a run looked for the BIOS.
+fn push_looked<X: Text>(text: &mut X, looked: Option<u16>)
+    ensures { X.pushed text.new ≡ more (X.pushed text.old) (lines.looked_line looked) }
+{
+    if let Some(cell) = looked {
+        text.push(b"looked for the BIOS at ");
+        text.push(word_digits(cell).as_bytes());
+        text.push(b"\n");
+    }
+}
+
+// Appends a line with a path.
+fn push_path<X: Text>(text: &mut X, before: &[u8], path: &str)
+    ensures { X.pushed text.new ≡ more (X.pushed text.old) (lines.path_line before.now path.now) }
+{
+    text.push(before);
+    push_shown(text, path.as_bytes());
+    text.push(b"\n");
+}
+
+// Appends the lines of the first of the paths that ended runs left, and how many more there are.
+fn push_left<X: Text>(text: &mut X, left: &[String])
+    ensures { X.pushed text.new ≡ more (X.pushed text.old) (lines.left_lines (map string_bytes left.now)) }
+{
+    let (named, others) = left.split_at(left.len().min(NAMED));
+    for path in named {
+        push_path(text, b"left by an ended run: ", path.as_str());
+    }
+    if !others.is_empty() {
+        text.push(b"and ");
+        text.push(Buffer::new().format(others.len()).as_bytes());
+        text.push(b" more\n");
+    }
+}
+
+// Appends the line of a folder whose names may not outlast a power failure, if there is one.
+fn push_if_unsynced<X: Text>(text: &mut X, folder: Option<&str>)
+    ensures { X.pushed text.new ≡ more (X.pushed text.old) (lines.unsynced_line folder.entry) }
+{
+    if let Some(folder) = folder {
+        push_path(text, b"not synced: ", folder);
+    }
+}
+
+// Appends the lines of these folders.
+fn push_unsynced<X: Text>(text: &mut X, unsynced: &[Option<&str>])
+    ensures { X.pushed text.new ≡ more (X.pushed text.old) (lines.unsynced_lines unsynced.now) }
+{
+    for folder in unsynced {
+        push_if_unsynced(text, *folder);
+    }
+}
+
+// Appends the line of the stop of a run, a line if a changed file is on an unchanged disk, the line of a look for the BIOS, the lines of the
+// changed files that are gone, and, if there are disks, of the ones that were not written, and then what may have to be done by hand.
+fn push_stop<X: Text>(text: &mut X, report: &Report<'_, '_>, entries: &[Entry<'_>])
+    ensures { X.pushed text.new ≡ more (X.pushed text.old)
+        (lines.lines_of report.now (map list.changed_by entries.now)) }
+{
+    text.push(stop_line(report.cause).as_bytes());
+    push_if_unchanged(text, report.disks, entries);
+    push_looked(text, report.looked);
+    push_gone(text, report.disks, entries);
+    push_unwritten(text, report.disks, entries);
+    push_left(text, report.left);
+    push_unsynced(text, &report.unsynced);
+}
+
+/// Reports on standard error why a run stopped, whether the disks are unchanged, at which cell it looked for the BIOS, which of the changed
+/// files are gone, which were not written, what ended runs left, and which folders were not synced. A failure of the writer ends this, and
+/// is ignored.
+pub fn report_stop<E: Writer>(report: &Report<'_, '_>, entries: &[Entry<'_>], err: &mut E)
     ensures { WritesOrFails (E.output err.old) (E.output err.new)
-        (list.stop_lines disks cause (map list.changed_by entries.now)) }
+        (lines.lines_of report.now (map list.changed_by entries.now)) }
 {
     let mut text = TextOver::new(err);
-    push_stop(&mut text, cause, disks, entries);
+    push_stop(&mut text, report, entries);
     text.flush();
     let _ = text.finish();
 }

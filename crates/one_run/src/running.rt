@@ -51,6 +51,7 @@ fn write_both<O: Writer, T: Writer, E: Writer>(
     let mut console = TextOver::new(out);
     let mut lines = TextOver::new(trace);
     let ended = push_both(run, choice, 0, &mut console, &mut lines, err);
+    err.hide_steps();
     console.flush();
     lines.flush();
     let console = console.finish();

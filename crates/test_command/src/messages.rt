@@ -31,6 +31,14 @@ fn text(alloc: Global, text: &str) -> Result<String, AllocError> {
     String::from_str(alloc, text)
 }
 
+fn texts(alloc: Global, given: &[&str]) -> Result<Vec<String>, AllocError> {
+    let mut texts = Vec::new(alloc);
+    for one in given {
+        texts.push(text(alloc, one)?)?;
+    }
+    Ok(texts)
+}
+
 #[test]
 fn each_fault_has_its_message(rt: HostRuntime) -> Result<(), Fail> {
     let alloc = rt.alloc();
@@ -76,7 +84,10 @@ fn a_fault_of_a_folder_has_its_message(rt: HostRuntime) -> Result<(), Fail> {
     let unmoved = Fault::Folders(folders::Fault::CannotMove(
         text(alloc, "disk/A.TXT")?,
         text(alloc, "disk/.A.TXT.new")?,
+        texts(alloc, &["disk/.B.new", "disk/.C.new"])?,
     ));
+    let crowded = Fault::Folders(folders::Fault::TooManyFiles(text(alloc, "disk")?));
+    let both = Fault::Folders(folders::Fault::WouldBeTwo(name));
     let changed = Fault::Folders(folders::Fault::Changed(text(alloc, "disk/A.TXT")?));
     let irregular = Fault::Folders(folders::Fault::Irregular(text(alloc, "disk/A.TXT")?));
     is_reported(&rt, alloc, unread, ("cannot read ", "disk/a.txt", 1));
@@ -89,10 +100,17 @@ fn a_fault_of_a_folder_has_its_message(rt: HostRuntime) -> Result<(), Fail> {
         unmoved,
         (
             "cannot write disk/A.TXT: ",
-            "its contents are in disk/.A.TXT.new",
+            "its contents are in disk/.A.TXT.new, those of other files in disk/.B.new, disk/.C.new",
             1,
         ),
     );
+    is_reported(
+        &rt,
+        alloc,
+        crowded,
+        ("disk ", "would have more than 512 files", 1),
+    );
+    is_reported(&rt, alloc, both, ("two files would be ", "C:A.TXT", 1));
     is_reported(
         &rt,
         alloc,

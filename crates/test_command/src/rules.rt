@@ -53,18 +53,24 @@ const DISK: &[Act<'_>] = &[
     Find(".d", Some("@/x.txt: @/m.com\n")),
 ];
 
-// A folder that is written is no other folder of the run.
+// A disk is no other folder of the run. Without a disk, the folder that is written may be one that is read.
 const SAME_FOLDER: &[Act<'_>] = &[
     Put("m.com", HI_MADE),
     Ask(
-        &["@/m.com", "x.txt", "--files", "@", "--out", "@"],
+        &["@/m.com", "x.txt", "--disk", "@", "--out-d", "@"],
         Parts(
             1,
             &[],
-            &["'--out <DIR>' cannot be used with '--files <DIR>': both are the same folder"],
+            &["<DIR>' cannot be used with '--", "both are the same folder"],
         ),
     ),
+    Find("x.txt", None),
     Find("X.TXT", None),
+    Ask(
+        &["@/m.com", "x.txt", "--files", "@", "--out", "@"],
+        Answer(0, "Hi", "stop WarmBoot\n"),
+    ),
+    Find("X.TXT", Some("")),
 ];
 
 const NO_FILES: &[Act<'_>] = &[

@@ -40,6 +40,7 @@ pub returns-in-Err-Read-clause-unchanged : goal.returns-in-Err-Read-clause-uncha
 returns-in-Err-Read-clause-unchanged g c = record {
   bytes = c.note_failed_read.ensures.bytes ∙ c.in_ok-edits.ensures.unchanged.bytes;
   names = c.note_failed_read.ensures.names ∙ c.in_ok-edits.ensures.unchanged.names;
+  special = c.note_failed_read.ensures.special ∙ c.in_ok-edits.ensures.unchanged.special;
   failed = c.note_failed_read.ensures.failed ∙ ap (λ paths. c.args.path.now ∷ paths) c.in_ok-edits.ensures.unchanged.failed;
 }
 

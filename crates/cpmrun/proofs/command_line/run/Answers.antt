@@ -48,6 +48,5 @@ returns-clause-done g c =
       of = rw c.session.ensures at c.in_ok-loaded.ensures.session;
       listings = c.in_ok-loaded.loaded.listings;
       listed = rw c.session.ensures at c.in_ok-loaded.ensures.names;
-      exits = refl;
-      done = (refl, same, rw (c.load.ensures.unchanged.bytes, c.options.ensures, c.into_session-session.ensures) at c.in_ok-replay_file.ensures.done);
+      done = (refl, (refl, same, rw (c.load.ensures.unchanged.bytes, c.options.ensures, c.into_session-session.ensures) at c.in_ok-replay_file.ensures.done));
     })

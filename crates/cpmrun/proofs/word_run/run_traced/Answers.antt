@@ -23,7 +23,7 @@ returns-in-Err-close-clause-part g c =
     let s = c.args.start.session.now in
     let ran = c.run_to_end-ran in
     let part = rw c.each_call.ensures at (trace_part (console_text s) (trace_text c.each_call.result s) _ _ _ _ ran.result ran.ensures.trace ran.ensures.fault) in
-    inr (part.0, written c.args.path.now _ _ _ _ (g.S.Output.Writer.output c.run_to_end-ran.new.trace) (take part.0 (trace_text each_call s)) c.in-Ok.ensures.opened c.in-Ok.ensures.made part.1 c.in-Err-close.ensures.written)
+    inr (part.0, written c.args.path.now (g.S.FileSystem.files c.args.system.now) (g.S.FileSystem.files c.create.new.self) (g.S.FileSystem.files c.close.new.self) _ (g.S.Output.Writer.output c.run_to_end-ran.new.trace) (take part.0 (trace_text each_call s)) c.in-Ok.ensures.opened c.in-Ok.ensures.made c.in-Ok.ensures.special part.1 c.in-Err-close.ensures.written)
 
 pub returns-in-Err-close-clause-failed : goal.returns-in-Err-close-clause-failed
 returns-in-Err-close-clause-failed g c =
@@ -34,11 +34,11 @@ pub returns-in-Ok-ran-clause-trace : goal.returns-in-Ok-ran-clause-trace
 returns-in-Ok-ran-clause-trace g c =
     let s = c.args.start.session.now in
     let whole = rw c.each_call.ensures at c.in-Ok-ran.ensures.trace in
-    written c.args.path.now _ _ _ _ (g.S.Output.Writer.output c.run_to_end-ran.new.trace) (trace_text each_call s) c.in-Ok.ensures.opened c.in-Ok.ensures.made whole.bytes c.in_default.ensures.written
+    written c.args.path.now (g.S.FileSystem.files c.args.system.now) (g.S.FileSystem.files c.create.new.self) (g.S.FileSystem.files c.close.new.self) _ (g.S.Output.Writer.output c.run_to_end-ran.new.trace) (trace_text each_call s) c.in-Ok.ensures.opened c.in-Ok.ensures.made c.in-Ok.ensures.special whole.bytes c.in_default.ensures.written
 
 pub returns-clause-part : goal.returns-clause-part
 returns-clause-part g c =
     let s = c.args.start.session.now in
     let ran = c.run_to_end-ran in
     let part = rw c.each_call.ensures at (trace_part (console_text s) (trace_text c.each_call.result s) _ _ _ _ ran.result ran.ensures.trace ran.ensures.fault) in
-    inr (part.0, written c.args.path.now _ _ _ _ (g.S.Output.Writer.output c.run_to_end-ran.new.trace) (take part.0 (trace_text each_call s)) c.in-Ok.ensures.opened c.in-Ok.ensures.made part.1 c.in_default.ensures.written)
+    inr (part.0, written c.args.path.now (g.S.FileSystem.files c.args.system.now) (g.S.FileSystem.files c.create.new.self) (g.S.FileSystem.files c.close.new.self) _ (g.S.Output.Writer.output c.run_to_end-ran.new.trace) (take part.0 (trace_text each_call s)) c.in-Ok.ensures.opened c.in-Ok.ensures.made c.in-Ok.ensures.special part.1 c.in_default.ensures.written)

@@ -1,6 +1,6 @@
 use Rattle.std.proofs.Common.{◌∙◌, map}
 use Rattle.std.proofs.lemmas.Result.{err_from_is_err_and}
-use Rattle.folders.proofs.FilesLemmas.{keeps_err, keeps_same, same_files}
+use Rattle.folders.proofs.FilesLemmas.{keeps_err, same_files}
 use Rattle.folders.specs.ChangedBytes.{written_bytes}
 use Rattle.plan.specs.Wanted.{wanted_of}
 use Rattle.one_run.specs.ChangedList.{planned_for, changed_by}

@@ -1,10 +1,5 @@
-use Rattle.std.proofs.Common.{◌∙◌, List, ap, arith, map}
-use Rattle.std.specs.List.{flat_map}
-use Rattle.std.proofs.lemmas.List.{take_all}
-use Rattle.streams.specs.Pushing.{more}
-use Rattle.streams.proofs.Pushes.{next_pushed, none_pushed}
+use Rattle.streams.proofs.Pushes.{next_pushed}
 use Rattle.one_run.specs.ChangedList.{unplaced_line, changed_by}
-use Rattle.one_run.specs.declared.changed.Entry.{Entry}
 use Rattle.one_run.proofs.Walking.{one_part}
 use Rattle.one_run.proofs.reporting.push_unplaced.Goals as goal
 
