@@ -84,6 +84,16 @@ class CommandCase(unittest.TestCase):
         with self.subTest(message):
             self.assertEqual(self.outcome(*words), (2, b"", f"cpmtools {self.command}: {message}\n"))
 
+    def refuses_output(self, option: str, path: Path, *words: str | Path) -> None:
+        """Expects an error if this option names an input, also by another name, and that nothing is written."""
+        before = {each: each.read_bytes() for each in self.room.rglob("*") if each.is_file()}
+        link = self.room / "link"
+        link.symlink_to(path)
+        for name in path, link:
+            self.faulty(f"{option} {name}: an input cannot be the output", *words, option, name)
+        link.unlink()
+        self.assertEqual({each: each.read_bytes() for each in self.room.rglob("*") if each.is_file()}, before)
+
     def put(self, name: str, data: bytes) -> Path:
         """Writes a file into the folder."""
         path = self.room / name

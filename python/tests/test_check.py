@@ -45,7 +45,7 @@ class ReaderTest(CommandCase):
         self.put("disk/x.txt", b"1")
         self.put("keys", b"abc")
         case, other = self.read("== one\nprogram keys\ntail \"a b\"\nfile a.txt\n| one\n| \\x41\\\\\n|\nfile b.txt 00*2\nscript\n| two\n"
-                                "limit 5\nfiles-b disk\n> run\n== two\nMVI A,1; RET\ntyped x\\n\n")
+                                "limit 5\nfiles-b disk\n> run\n== two\nMVI A,1; RET\ntyped x\\n\n> run\n")
         self.assertEqual(case.session, Setup(b"abc", b"a b", b"two\r", (("a.txt", b"one\r\nA\\\r\n\r\n"), ("b.txt", b"\0\0")), 5,
                                              folders=(("B", self.room / "disk"),)))
         self.assertEqual((other.session.program, other.session.script, other.number), (b"\x3e\x01\xc9", b"x\n\r", 14))
@@ -66,6 +66,11 @@ class ReaderTest(CommandCase):
         self.refuse(2, "no text can be here: | x", "== one\n| x\n")
         self.refuse(3, "no escape: | \\n", "== one\nscript\n| \\n\n")
         self.refuse(2, "no bytes: x", "== one\n> insert 0 x\n")
+        self.refuse(4, "a table without a row", "== one\n> run\n\nwith a | b\n")
+
+    def test_a_case_without_a_command_is_an_error(self) -> None:
+        self.refuse(4, "the case has no command", "== one\n> run\nHalt\n== two\nHLT\n\n== three\n> run\nHalt\n")
+        self.refuse(1, "the case has no command", "== one\n{a}; RET\nwith a\nNOP\n")
 
     def test_texts_are_read_as_they_are_written(self) -> None:
         for data in b"", b"a", b"a\r\n", b"a\r\nb", b"\r\n\r\n", b" a \\ \x1b\r\n ", bytes(range(256)), b"a\r\r\n":
@@ -179,6 +184,14 @@ class CheckTest(CommandCase):
         self.assertEqual((suite.get("tests"), suite.get("failures")), ("2", "1"))
         self.assertEqual([case.get("name") for case in suite], ["Ada is greeted", "<&> is greeted"])
         self.assertIn('text "Hello, Ada"\n# wanted:', suite[1][0].text)
+
+    def test_no_input_is_written(self) -> None:
+        self.put("disk/x.txt", b"one")
+        self.put("keys", b"Ada\r")
+        path = self.cases(f"== one\nprogram program.com\nconsole keys\nfiles disk\n> run\n")
+        program = self.put("program.com", b"\xc9")
+        for each in path, program, self.room / "keys", self.room / "disk/x.txt":
+            self.refuses_output("--junit", each, path)
 
     def test_faults(self) -> None:
         self.faulty("the following arguments are required: FILE")

@@ -54,6 +54,16 @@ loop.com: 7 of 8 bytes executed (87.5 %), 1 run, 9 steps
   0107-0107 not executed  again+5
 """, ""))
 
+    def test_no_input_is_written(self) -> None:
+        program, keys, note = self.put("loop.com", LOOP), self.put("keys", b""), self.put("disk/note.txt", b"one")
+        cases, symbols = self.put("cases.txt", b"== one\nprogram loop.com\nconsole keys\nfiles-c disk\n> run\n"), self.put("loop.sym", b"again:\tequ $0102\n")
+        for option in "--html", "--lcov":
+            more = ["--listing", LISTING, "--symbols", symbols]
+            for path in program, keys, note, symbols:
+                self.refuses_output(option, path, program, "--console", keys, "--files-c", note.parent, *more)
+            for path in cases, program, keys, note, symbols:
+                self.refuses_output(option, path, "--cases", cases, *more)
+
     def test_lines_with_a_listing(self) -> None:
         status, out, errors = self.outcome(NEST, "--typed", "(a)", "--listing", LISTING)
         self.assertEqual((status, errors), (0, ""))

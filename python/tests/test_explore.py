@@ -42,6 +42,13 @@ class Explore(CommandCase):
         return [(int(number), cause, ast.literal_eval(text or "None"), ast.literal_eval(script))
                 for number, cause, text, script in LINES.findall(printed.decode())]
 
+    def test_no_input_is_written(self) -> None:
+        keys, note = self.put("kept/17-script", b"(a)"), self.put("disk/note.txt", b"one")
+        words = [NEST, "--console", keys, "--disk", note.parent, "--tries", "0"]
+        self.faulty(f"-o {keys}: an input cannot be the output", *words, "-o", keys.parent)
+        self.assertEqual((keys.read_bytes(), note.read_bytes()), (b"(a)", b"one"))
+        self.assertEqual(self.outcome(*words, "-o", self.room / "new")[0], 0)
+
     def test_what_is_new(self) -> None:
         typed = self.put("typed", b"(a)")
         words = [NEST, "--console", typed, "--tries", "400", "--alphabet", "()a\r"]

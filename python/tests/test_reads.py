@@ -253,6 +253,11 @@ class Reads(ReadsCase):
         self.assertEqual(self.outcome(*words, "-o", self.room / "page.html"), (0, b"", ""))
         self.assertEqual((self.room / "page.html").read_bytes(), text)
 
+    def test_no_input_is_written(self) -> None:
+        program, keys, note = self.put("typed.com", TYPED_CODE), self.put("keys", b""), self.put("disk/note.txt", b"one")
+        for path in program, keys, note:
+            self.refuses_output("-o", path, program, "--console", keys, "--disk", note.parent)
+
     def test_listing_of_a_run(self) -> None:
         program, _, _, folder = self.scan()
         listing = read_listing(COMMAND, program, "x.txt", folders={"A": folder}, limit=10)

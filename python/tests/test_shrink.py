@@ -83,6 +83,13 @@ class Shrink(CommandCase):
         message = self.outcome(*self.typed(b"a)"), "--cause", "Undefined", "-o", output)
         self.assertEqual((message[:2], output.read_bytes()), ((0, b""), b")"))
 
+    def test_no_input_is_written(self) -> None:
+        program, note, keys = self.put("nest.com", NEST_CODE), self.put("disk/note.txt", b"one"), self.put("keys", b"a)")
+        words = [program, "--console", keys, "--files-b", note.parent, "--file-differs", f"b:note.txt={self.put('expected', b'')}"]
+        for path in program, keys, note, self.room / "expected":
+            self.refuses_output("-o", path, *words)
+        self.assertEqual(self.outcome(*words, "-o", self.room / "disk/new")[0], 0)
+
     def test_files(self) -> None:
         program = self.put("scan.com", SCAN_CODE)
         self.put("note.txt", b"one\r\ntwo # three\r\n")

@@ -49,6 +49,26 @@ class Snap(CommandCase):
         self.assertEqual((status, errors), (1, ""))
         self.assertIn(b"-  | Hallo, Ada\n+  | Hello, Ada\n", printed)
 
+    def test_accept_writes_only_what_it_wrote(self) -> None:
+        words = [GREETING, "--edits", self.edits, "--accept", "--kept"]
+        text = SHOWN.encode()
+        for data in b"", text, text.replace(b"Ada", b"Eve"), b"> run\nstop Halt after 1 steps\nA=00 F=02\nfile A, 1 record\n  000000  00\ngone B\n":
+            self.assertEqual(self.outcome(*words, self.put("kept", data)), (0, b"", ""), data)
+        for data in b"\n", text + b"more\n", text[:-1], text + b"> run\n", b"#!/bin/sh\n", b"\x80\xff":
+            kept = self.put("mine", data)
+            self.faulty(f"--kept {kept}: --accept did not write this file; --force overwrites it", *words, kept)
+            self.assertEqual(kept.read_bytes(), data)
+            self.assertEqual(self.outcome(*words, kept, "--force"), (0, b"", ""))
+            self.assertEqual(kept.read_bytes(), text)
+
+    def test_no_input_is_written(self) -> None:
+        keys, note = self.put("keys", b"Ada"), self.put("disk/note.txt", b"one")
+        program = self.put("program.com", GREETING.read_bytes())
+        for path in program, self.edits, keys, note:
+            words = [program, "--edits", self.edits, "--console", keys, "--disk-d", note.parent, "--accept"]
+            self.refuses_output("--kept", path, *words)
+            self.refuses_output("--kept", path, *words, "--force")
+
     def test_files(self) -> None:
         program = self.put("copier.com", COPIER)
         edits = self.put("edits", b"run\n")
@@ -62,5 +82,6 @@ class Snap(CommandCase):
 
     def test_faults(self) -> None:
         self.faulty("--accept needs --kept", GREETING, "--edits", self.edits, "--accept")
+        self.faulty("--force needs --accept", GREETING, "--edits", self.edits, "--kept", "kept", "--force")
         self.faulty("the runner ended with status 2: cpmrun: line 1 is malformed", GREETING, "--edits", self.put("bad", b"stop\n"))
         self.faulty("the runner ended with status 2: cpmrun: line 2 is malformed", GREETING, "--edits", self.put("bad", b"run\nrun\r\n"))

@@ -13,6 +13,7 @@ from pathlib import Path
 
 from .assembler import assemble
 from .failing import padded
+from .files import host_files
 from .words import DRIVES, LARGEST_LIMIT, typed_bytes
 
 LIMIT = 1_000_000
@@ -278,11 +279,24 @@ class Case:
     """The row of a table that it is made of."""
     program_path: Path | None = None
     """The path of its program, unless it has instructions."""
+    script_path: Path | None = None
+    """The path of its script, if that is a file."""
 
     @property
     def number(self) -> int:
         """The number of its first line."""
         return number_of(self.title)
+
+    @property
+    def is_empty(self) -> bool:
+        """Whether it has no command."""
+        return not self.commands
+
+    def paths(self) -> Iterator[Path]:
+        """Yields the paths of what it reads: its file, its program, its script and its host files."""
+        yield from (path for path in (self.path, self.program_path, self.script_path) if path is not None)
+        for _, folder in self.session.folders:
+            yield from host_files(folder)
 
 
 def line_of(command: str) -> str:
@@ -352,6 +366,8 @@ def rows_in(lines: list[Line]) -> list[Row]:
         if len(values) != len(names):
             raise CaseError(f"{number_of(line)}: a row of {len(values)} values for {len(names)} names: {line}")
         rows.append(Row(names, values, lines[:heads[0]], line))
+    if not rows:
+        raise CaseError(f"{number_of(lines[heads[0]])}: a table without a row")
     return rows
 
 
@@ -388,7 +404,7 @@ class Reader:
         rows = rows_in(lines)
         if rows:
             yield from (self.case(path, row.lines(), programs, row) for row in rows)
-        elif not any(line.startswith("with ") for line in lines):
+        else:
             yield self.case(path, lines, programs)
 
     def case(self, path: Path, lines: list[Line], programs: Mapping[str, list[str]], row: Row | None = None) -> Case:
@@ -412,6 +428,8 @@ class Reader:
                 raise CaseError(f"{path}:{line.number}: {message_of(fault)}") from None
         if program:
             case.session = replace(case.session, program=self.assembled(path, lines[0].number, program))
+        if case.is_empty:
+            raise CaseError(f"{path}:{case.number}: the case has no command")
         return case
 
     @staticmethod
@@ -443,7 +461,8 @@ class Reader:
         elif word == "typed":
             case.session = replace(session, script=typed_bytes(rest))
         elif word == "console":
-            case.session = replace(session, script=(case.path.parent / rest).read_bytes())
+            case.script_path = case.path.parent / rest
+            case.session = replace(session, script=case.script_path.read_bytes())
         elif word in ("limit", "spacing", "slots"):
             case.session = replace(session, **{word: int(rest)})
         elif word == "file":

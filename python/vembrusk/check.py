@@ -19,7 +19,7 @@ from .cases import Case, CaseError, Reader
 from .files import write_whole
 from .player import Difference, play_case
 from .session import PathName
-from .words import Arguments, UsageError, number
+from .words import Arguments, UsageError, check_output, number
 
 
 @dataclass
@@ -101,6 +101,7 @@ def run(values: argparse.Namespace) -> int:
         if not Path(path).exists():
             raise UsageError(f"cannot read {path}")
     cases = read_cases(values.file)
+    check_output("--junit", values.junit, (path for case in cases for path in case.paths()))
     with ThreadPoolExecutor(values.jobs) as pool:
         try:
             results = list(pool.map(lambda case: run_case(case, values.cpmrun), cases))

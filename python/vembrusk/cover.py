@@ -7,11 +7,11 @@ from __future__ import annotations
 import argparse
 import os
 import signal
-from collections.abc import Iterator
+from collections.abc import Iterable, Iterator
 from concurrent.futures import ProcessPoolExecutor
 from pathlib import Path
 
-from .cases import Setup
+from .cases import Case, Setup
 from .check import read_cases
 from .counts import LOAD_ADDRESS, count_run, count_setup, merged
 from .cover_page import page
@@ -24,7 +24,7 @@ from .progress import Progress
 from .session import PathName
 from .source import read_source
 from .symbols import Symbols, read_symbols
-from .words import Arguments, UsageError, number, session_of
+from .words import Arguments, UsageError, check_output, number, session_of
 
 NOT_EXECUTED = "#####"
 """What a line shows in place of its count if it was not executed."""
@@ -68,10 +68,10 @@ def lcov(programs: list[Covered]) -> str:
     return "\n".join([*lines, ""])
 
 
-def covered_by_cases(paths: list[str], tracer: PathName, jobs: int) -> list[Covered]:
+def covered_by_cases(cases: list[Case], tracer: PathName, jobs: int) -> list[Covered]:
     """Returns the programs of cases, and what all their runs executed. A case with instructions has no path, so it does not count."""
     setups: dict[Path, list[Setup]] = {}
-    for case in read_cases(paths):
+    for case in cases:
         if case.program_path is not None:
             setups.setdefault(case.program_path.resolve(), []).extend(sessions_of(case))
     if not setups:
@@ -115,13 +115,23 @@ def add_arguments(parser: Arguments) -> None:
     add("--summary", action="store_true", help="print only the lines about the programs")
 
 
+def check_outputs(values: argparse.Namespace, reads: Iterable[PathName]) -> None:
+    """Raises UsageError if an output is one of these paths, or of the files of the other options."""
+    paths = [*reads, *values.listing, *values.symbols]
+    check_output("--html", values.html, paths)
+    check_output("--lcov", values.lcov, paths)
+
+
 def read_programs(values: argparse.Namespace) -> list[Covered]:
     """Returns the programs that the arguments name, and what their runs executed."""
     if bool(values.cases) == (values.program is not None):
         raise UsageError("either PROGRAM or --cases is needed")
     if values.cases:
-        return covered_by_cases(values.cases, values.cpmtrace, values.jobs)
+        cases = read_cases(values.cases)
+        check_outputs(values, (path for case in cases for path in case.paths()))
+        return covered_by_cases(cases, values.cpmtrace, values.jobs)
     words = session_of(values)
+    check_outputs(values, words.paths())
     program = Path(words.program).read_bytes()
     for path in values.listing:
         read_source(Path(path)).check(program)

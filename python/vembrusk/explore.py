@@ -13,11 +13,11 @@ from contextlib import ExitStack
 from dataclasses import dataclass
 from pathlib import Path
 
-from .failing import Expected, Test, add_failure, read_expected, test_of
+from .failing import Expected, Test, add_failure, expected_paths, read_expected, test_of
 from .files import write_whole
 from .inputs import Inputs
-from .session import Report
-from .words import Arguments, SessionWords, UsageError, session_of
+from .session import PathName, Report
+from .words import Arguments, SessionWords, UsageError, check_output, session_of
 
 CHARACTERS = bytes(range(0x20, 0x7F)) + b"\r\x03\x1a"
 """The default alphabet: characters, and the bytes that end a line, a run and a text."""
@@ -106,6 +106,7 @@ def run(values: argparse.Namespace) -> int:
         raise UsageError("--alphabet must have a byte, and --tries be 0 or more")
     alphabet = CHARACTERS if values.alphabet is None else os.fsencode(values.alphabet)
     words = session_of(values)
+    check_folder(values.output, [*words.paths(), *expected_paths(values.file_differs)])
     with ExitStack() as stack:
         test = test_of(values)
         if test is not None:
@@ -118,6 +119,12 @@ def run(values: argparse.Namespace) -> int:
             if not values.causes or not news[0].startswith("text"):
                 show(number, [name or "script" for name in inputs.names], data, news, values.output)
     return 0
+
+
+def check_folder(folder: str | None, reads: list[PathName]) -> None:
+    """Raises UsageError if a file in the folder of -o is read here and has a name such as the ones that are written."""
+    for path in [] if folder is None else sorted(Path(folder).glob("[0-9]*-*")):
+        check_output("-o", path, reads)
 
 
 def show(number: int, names: list[str], data: list[bytes], news: list[str], folder: str | None) -> None:

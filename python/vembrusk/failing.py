@@ -62,6 +62,11 @@ def read_expected(words: list[str]) -> list[Expected]:
     return files
 
 
+def expected_paths(words: list[str]) -> list[str]:
+    """Returns the paths of the expected files of words of the form NAME=PATH."""
+    return [word.partition("=")[2] for word in words]
+
+
 def check_cause(cause: str | None) -> None:
     """Raises UsageError for a cause that no run has."""
     if cause is not None and CAUSES.fullmatch(cause) is None:

@@ -12,7 +12,7 @@ from pathlib import Path
 
 from .listing import FileReads, Listing, rows_of
 from .page import STYLE, document, table, write_page
-from .words import Arguments, SessionWords, session_of
+from .words import Arguments, SessionWords, check_output, session_of
 
 LOAD_ADDRESS = 0x100
 RECORD = 128
@@ -241,6 +241,7 @@ def add_arguments(parser: Arguments) -> None:
 def run(values: argparse.Namespace) -> int:
     """Runs the subcommand."""
     words = session_of(values)
+    check_output("-o", values.output, words.paths())
     listing = words.listing(values.cpmdeps)
     facts = {"Program": words.program, "Command tail": words.tail or "none", "Stop": listing.stop}
     facts |= {} if words.limit is None else {"Limit": f"{words.limit:,} steps"}

@@ -14,11 +14,11 @@ from collections.abc import Callable
 from contextlib import ExitStack
 from dataclasses import dataclass
 
-from .failing import Expected, Test, add_failure, check_cause, read_expected, test_of
+from .failing import Expected, Test, add_failure, check_cause, expected_paths, read_expected, test_of
 from .files import write_whole
 from .inputs import Inputs
 from .session import Report
-from .words import Arguments, SessionWords, UsageError, session_of
+from .words import Arguments, SessionWords, UsageError, check_output, session_of
 
 MOST_SLOTS = 4096
 
@@ -118,12 +118,14 @@ def run(values: argparse.Namespace) -> int:
     if values.cause is None and values.text is None and values.test is None and not values.file_differs:
         raise UsageError("--cause, --text, --test or --file-differs must say what fails")
     check_cause(values.cause)
+    words = session_of(values)
+    check_output("-o", values.output, [*words.paths(), *expected_paths(values.file_differs)])
     with ExitStack() as stack:
         test = test_of(values)
         if test is not None:
             stack.enter_context(test)
         text = None if values.text is None else os.fsencode(values.text)
-        failure = Failure(session_of(values), values.cause, text, read_expected(values.file_differs), test)
+        failure = Failure(words, values.cause, text, read_expected(values.file_differs), test)
         came = shrink(values, failure)
         if values.output is None:
             sys.stdout.buffer.write(came.data)

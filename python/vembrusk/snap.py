@@ -1,25 +1,30 @@
 """Shows what a file of edit lines gives, in a form for people, and compares it with what was kept.
 
 Each line is shown with its reply. A report shows the console text and changed text files as text, and other files as a hex dump.
-With --kept FILE nothing is printed if FILE has the same; else the differences are printed, with status 1. --accept writes FILE.
+With --kept FILE nothing is printed if FILE has the same; else the differences are printed, with status 1. --accept writes FILE, and with --force
+also over a file that --accept did not write.
 """
 
 from __future__ import annotations
 
 import argparse
 import difflib
+import re
 import sys
 from collections.abc import Iterator
 from pathlib import Path
 
 from .files import write_whole
-from .session import Refused, Registers, Report, Session
-from .words import Arguments, UsageError, session_of
+from .session import PathName, Refused, Registers, Report, Session
+from .words import Arguments, UsageError, check_output, session_of
 
 LONGEST_SHOWN = 100
 """The characters of an edit line that are shown."""
 
 TEXT = bytes(range(0x20, 0x7F)) + b"\r\n\t\f"
+
+KEPT = re.compile(r"(?:> .*\n(?:ok|refused \d.*|stop .+ after .+ steps\nA=.*(?:\n(?:  .*|gone .*|file .*records?))*)\n)*")
+"""The text of a file that --accept wrote: edit lines with their replies."""
 
 
 def escaped(line: bytes) -> str:
@@ -83,7 +88,15 @@ def add_arguments(parser: Arguments) -> None:
     parser.add_program("cpmrun")
     parser.add_argument("--edits", metavar="FILE", help="the edit lines; this option is required")
     parser.add_argument("--kept", metavar="FILE", help="the file to compare with; the exit status is 1 if it differs")
-    parser.add_argument("--accept", action="store_true", help="write the kept file")
+    parser.add_argument("--accept", action="store_true", help="write the kept file, unless it is one that --accept did not write")
+    parser.add_argument("--force", action="store_true", help="with --accept, write any file")
+
+
+def check_kept(path: str, is_forced: bool, reads: list[PathName]) -> None:
+    """Raises UsageError if --accept may not write this file."""
+    check_output("--kept", path, reads)
+    if Path(path).is_file() and not is_forced and KEPT.fullmatch(Path(path).read_bytes().decode("latin-1")) is None:
+        raise UsageError(f"--kept {path}: --accept did not write this file; --force overwrites it")
 
 
 def run(values: argparse.Namespace) -> int:
@@ -92,7 +105,11 @@ def run(values: argparse.Namespace) -> int:
         raise UsageError("the following arguments are required: --edits")
     if values.accept and values.kept is None:
         raise UsageError("--accept needs --kept")
+    if values.force and not values.accept:
+        raise UsageError("--force needs --accept")
     words = session_of(values)
+    if values.accept:
+        check_kept(values.kept, values.force, [*words.paths(), values.edits])
     text = Path(values.edits).read_bytes().decode("latin-1")
     edits = text.removesuffix("\n").split("\n") if text else []
     with words.start(values.cpmrun) as session:

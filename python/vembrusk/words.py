@@ -6,12 +6,12 @@ import argparse
 import os
 import re
 import shutil
-from collections.abc import Callable, Sequence
+from collections.abc import Callable, Iterable, Iterator, Sequence
 from dataclasses import dataclass, field, replace
 from pathlib import Path
 from typing import NoReturn
 
-from .files import host_file
+from .files import host_file, host_files
 from .listing import Listing, read_listing
 from .session import PathName, Session, session_words
 from .trace import Tracer
@@ -60,6 +60,12 @@ class SessionWords:
         """Returns what the run of the session asks for."""
         return read_listing(command, self.program, self.tail, folders=self.folders, script=self.console, typed=self.typed, limit=self.limit)
 
+    def paths(self) -> Iterator[PathName]:
+        """Yields the paths of what the session reads: its program, its script and its host files."""
+        yield from (self.program, *([] if self.console is None else [self.console]))
+        for folder in filter(os.path.isdir, self.folders.values()):
+            yield from host_files(Path(folder))
+
     def script(self) -> bytes:
         """Returns the console input."""
         if self.typed is not None:
@@ -94,6 +100,12 @@ def typed_bytes(text: str) -> bytes:
 
     data = _ESCAPE.sub(byte_of, os.fsencode(text))
     return data if data.endswith(b"\r") else data + b"\r"
+
+
+def check_output(option: str, path: PathName | None, reads: Iterable[PathName]) -> None:
+    """Raises UsageError if the file of an option, which a subcommand writes, is one that it reads, by whatever name."""
+    if path is not None and os.path.isfile(path) and any(os.path.exists(each) and os.path.samefile(path, each) for each in reads):
+        raise UsageError(f"{option} {os.fspath(path)}: an input cannot be the output")
 
 
 def number(least: int, most: int) -> Callable[[str], int]:

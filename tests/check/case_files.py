@@ -47,6 +47,10 @@ class CallCase(Case):
     """The address at which the program of calls begins."""
     calls: list[Call] = field(default_factory=list)
 
+    @property
+    def is_empty(self) -> bool:
+        return super().is_empty and not self.calls
+
 
 class CallReader(Reader):
     """Reads cases with programs of calls."""

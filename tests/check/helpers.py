@@ -1,14 +1,13 @@
 """What the tests share. The environment variables PROGRAM, DEPENDENCIES_PROGRAM and TRACE_PROGRAM are the paths of the built program by its names
 cpmrun, cpmdeps and cpmtrace. The last two are links, which are not followed: the program does what its name says."""
 import contextlib
-import errno
 import os
+import select
 import shutil
 import signal
 import subprocess
 import sys
 import tempfile
-import time
 import unittest
 from collections.abc import Iterable, Iterator
 from dataclasses import dataclass
@@ -32,6 +31,9 @@ DRIVES = assemble(['MVI A,1', 'drive: STA 5CH; LXI D,5CH; MVI C,19; CALL 5; MVI 
                    'LDA 5CH; INR A; CPI 5; JNZ drive; RET'])
 """On each drive deletes the first name of its tail, makes it, and writes one record after the place where the drive before ended."""
 
+
+DOTS = 5000
+"""The dots that a program of `after_dots` prints, more than a small pipe holds."""
 
 RECORD = b'new' + bytes(125)
 """The record that programs of `calls` write."""
@@ -105,14 +107,14 @@ def files_below(folder: Path) -> dict[str, bytes]:
     return {path.relative_to(folder).as_posix(): path.read_bytes() for path in folder.rglob('*') if path.is_file()}
 
 
-def open_writer(fifo: Path) -> int | None:
-    """Opens a FIFO for writing, if a reader has opened it."""
-    try:
-        return os.open(fifo, os.O_WRONLY | os.O_NONBLOCK)
-    except OSError as error:
-        if error.errno != errno.ENXIO:
-            raise
-        return None
+def after_dots(program: bytes) -> bytes:
+    """Returns a program that prints DOTS dots before it begins. Its first bytes are a jump to what prints them, which puts them back."""
+    first, rest = program[:3], program[3:]
+    code = assemble(['JMP start', f'DS {len(rest)}', f'start: LXI D,{DOTS}',
+                     'dot: PUSH D; MVI E,46; MVI C,2; CALL 5; POP D; DCX D; MOV A,D; ORA E; JNZ dot',
+                     f'LXI H,{int.from_bytes(first[:2], "little")}; SHLD 100H; MVI A,{first[2]}; STA 102H',
+                     'LXI H,0; LXI D,0; LXI B,2; PUSH B; POP PSW; MVI C,0; JMP 100H'])
+    return code[:3] + rest + code[len(program):]
 
 
 def build_library(source: str, folder: Path) -> Path:
@@ -193,23 +195,24 @@ class ProgramTest(WorkTest):
             self.fail(f'{len(done.stdout)} bytes of output; at {same}: {done.stdout[same:same + 100]!r} != {wanted[same:same + 100]!r}')
 
     @contextlib.contextmanager
-    def held(self, *words: object) -> Iterator[subprocess.Popen]:
-        """Starts the program, and holds it during the block: it has read its host files, and waits for its script, which is empty."""
-        script = Path(tempfile.mkdtemp(dir=self.work)) / 'script'
-        os.mkfifo(script)
-        process = self.start(*words, '--console', script)
-        end = time.monotonic() + 20
-        while (held := open_writer(script)) is None:
-            self.assertTrue(process.poll() is None and time.monotonic() < end, 'the script is not opened')
-            time.sleep(0.01)
-        try:
-            yield process
-        finally:
-            os.close(held)
+    def held(self, program: Path, *words: object) -> Iterator[subprocess.Popen]:
+        """Starts a program that prints dots before it begins, and holds it during the block: it has read its host files, and its dots, which are
+        not seen after the block, wait for their reader."""
+        dotted = Path(tempfile.mkdtemp(dir=self.work)) / program.name
+        dotted.write_bytes(after_dots(program.read_bytes()))
+        process = self.start(dotted, *words, bufsize=0, pipesize=4096)
+        self.assertTrue(select.select([process.stdout], [], [], 20)[0], 'nothing is printed')
+        yield process
+        left = DOTS
+        while left > 0:
+            piece = process.stdout.read(left)
+            self.assertTrue(piece and not piece.strip(b'.'), piece)
+            left -= len(piece)
 
-    def start(self, *words: object) -> subprocess.Popen:
+    def start(self, *words: object, **how) -> subprocess.Popen:
         """Starts the program with nothing on standard input. It is killed if it still runs at the end of the test."""
-        process = subprocess.Popen([PROGRAM, *words], stdin=subprocess.DEVNULL, stdout=subprocess.PIPE, stderr=subprocess.PIPE, cwd=TOP)
+        how = {'stdin': subprocess.DEVNULL, 'stdout': subprocess.PIPE, 'stderr': subprocess.PIPE, 'cwd': TOP, **how}
+        process = subprocess.Popen([PROGRAM, *words], **how)
         self.addCleanup(process.communicate)
         self.addCleanup(process.kill)
         return process

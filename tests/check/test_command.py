@@ -214,12 +214,14 @@ class MessageTest(CommandTest):
         self.put('order/x', '')
         self.put('order/X', '')
         for message, words in [
-            ('cannot read none.com', ['none.com', '--files', 'none']),
+            ('cannot read none.com', ['none.com', '--console', 'no-script']),
+            ('cannot read no-script', [HI, '--files', 'none', '--console', 'no-script']),
+            ('cannot read no-script', [HI, '--files-d', folder, '--console', 'no-script']),
             ('two files are X', [HI, '--files', folder, '--files-b', 'none']),
             ('cannot read none', [HI, '--files-b', 'none', '--files-c', folder]),
             ('two files are C:X', [HI, '--files-c', folder, '--files-d', 'none']),
-            ('two files are D:X', [HI, '--files-d', folder, '--console', 'none']),
-            ('cannot read none', [HI, '\x7f', '--console', 'none', '--edits', 'no-edits']),
+            ('two files are D:X', [HI, '\x7f', '--files-d', folder]),
+            ('cannot read no-script', [HI, '\x7f', '--console', 'no-script', '--edits', 'no-edits']),
             ('session refused 3', [HI, '\x7f', '--edits', 'no-edits']),
         ]:
             with self.subTest(message, words=words):

@@ -75,6 +75,7 @@ class CommandCasesTest(ProgramTest):
                 commands[-1].read(line)
             else:
                 self.prepare(word, *rest.partition(' ')[::2])
+        self.assertTrue(commands, 'the case has no command')
         for wanted in commands:
             done = self.run_command(program, *wanted.words, cwd=self.work)
             self.assertEqual(done.returncode, wanted.status, (wanted.words, done.stderr))

@@ -74,7 +74,8 @@ class KeptTest(DiskTest):
         (self.disk / 'nowhere').symlink_to('none')
         names = os.listdir(self.disk)
         self.put('disk/a.txt', 'one')
-        self.run_calls(f'19 {EVERYTHING}', gone='A.TXT')
+        err = f'{WARM_BOOT}gone A.TXT\nleft by an ended run: {self.disk}/.X.new\n'
+        self.expect(0, '', err, self.put('calls.com', calls(f'19 {EVERYTHING}')), '--disk', self.disk)
         self.expect_names(self.disk, *names)
         self.assertEqual([(self.disk / name).read_text() for name in [*NOT_HOST_NAMES, 'sub/a.txt']], ['kept'] * (len(NOT_HOST_NAMES) + 1))
 

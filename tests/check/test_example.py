@@ -32,7 +32,8 @@ class ExampleTest(ProgramTest):
             ('cannot read none.com', ['none.com', '--edits', EDITS]),
             ('cannot read none.txt', [HI, '--edits', 'none.txt']),
             ('cannot read none.txt', [HI, '--console', 'none.txt', '--edits', 'none']),
-            ('cannot read none', [HI, '--files-b', 'none', '--console', 'none.txt']),
+            ('cannot read none.txt', [HI, '--files-b', 'none', '--console', 'none.txt']),
+            ('cannot read none', [long, '--files-b', 'none', '--edits', 'none.txt']),
             ('session refused 1', [long, '--edits', 'none.txt']),
         ]:
             with self.subTest(message, words=words):

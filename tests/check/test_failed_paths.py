@@ -1,6 +1,6 @@
 """Which path a message names when a call of the system fails, and what comes first when two things are wrong."""
 from failures import FailureTest
-from helpers import DEPENDENCIES_PROGRAM, HI, ProgramTest
+from helpers import DEPENDENCIES_PROGRAM, HI, PROGRAM, TRACE_PROGRAM, ProgramTest
 from vembrusk.assembler import assemble
 
 
@@ -9,9 +9,11 @@ class CallsTest(FailureTest):
 
     library = 'fail'
 
-    def expect_messages(self, calls: str, *messages: str, disks: bool = False) -> None:
-        """Expects one of these messages for each failing call of the kinds of these letters, and each message at some call."""
-        words, before = self.disk_words()[::2] if disks else (self.drive_words()[0], {})
+    def expect_messages(self, calls: str, *messages: str, disks: bool = False, unsynced: tuple[str, ...] = ()) -> None:
+        """Expects one of these messages for each failing call of the kinds of these letters, and each message at some call; or, of a run over
+        disks, that all is done and one of these folders is not synced."""
+        words, stop, before, _ = self.disk_words() if disks else (self.drive_words()[0], '', {}, {})
+        ends = [f'cpmrun: {message}\n' for message in messages] + [f'{stop}not synced: {folder}\n' for folder in unsynced]
         self.environment = {'FAIL_CALLS': calls}
         told = set()
         for at in range(1, 1001):
@@ -22,15 +24,24 @@ class CallsTest(FailureTest):
                 break
             with self.subTest(calls=calls, at=at):
                 self.assertEqual(done.returncode, 1)
-                self.assertIn(done.stderr.decode(), [f'cpmrun: {message}\n' for message in messages])
+                self.assertIn(done.stderr.decode(), ends)
             told.add(done.stderr.decode())
-        self.assertEqual(len(told), len(messages))
+        self.assertEqual(len(told), len(ends))
 
     def test_the_state_of_a_file_names_the_file(self) -> None:
-        """Of the program, of a folder, of a host file, and of what is at the path of a file that is written, or has its temporary name."""
+        """Of the program, of a folder that is written, of a host file, and of what is at the path of a file that is written, or has its
+        temporary name."""
         folders = [self.work / 'written' / drive for drive in 'abcd']
-        self.expect_messages('s', *(f'cannot read {path}' for path in (self.work / 'drives.com', self.host(), *folders, self.work / 'host/x')),
+        self.host()
+        self.expect_messages('s', *(f'cannot read {path}' for path in (self.work / 'drives.com', *folders, self.work / 'host/x')),
                              *(f'cannot write {folder}/X' for folder in folders))
+
+    def test_the_state_of_a_file_on_a_disk_names_the_file(self) -> None:
+        written = self.work / 'written'
+        self.expect_messages('s', f'cannot read {self.work}/calls.com',
+                             *(f'cannot read {written}/{name}' for name in ('a', 'b', 'd', 'a/Keep', 'a/ann', 'a/note.txt', 'a/old', 'd/X')),
+                             *(f'cannot write {written}/{name}' for name in ('b/NEW', 'a/ben', 'd/Y', 'a/note.txt', 'a/ann', 'a/old', 'd/X')),
+                             disks=True)
 
     def test_the_entries_of_a_folder_name_the_folder(self) -> None:
         self.host()
@@ -42,8 +53,9 @@ class CallsTest(FailureTest):
                                     for drive in 'abcd'))
 
     def test_a_sync_names_the_file_that_is_written_or_the_disk(self) -> None:
-        names = 'a/ben', 'd/Y', 'a/note.txt', 'a', 'd'
-        self.expect_messages('y', *(f'cannot write {self.work}/written/{name}' for name in names), disks=True)
+        written = self.work / 'written'
+        self.expect_messages('y', *(f'cannot write {written}/{name}' for name in ('b/NEW', 'a/ben', 'd/Y', 'a/note.txt')),
+                             disks=True, unsynced=(f'{written}/b', f'{written}/a', f'{written}/d'))
 
     def test_a_write_names_the_file_that_is_written(self) -> None:
         self.host()
@@ -75,13 +87,19 @@ class OrderTest(ProgramTest):
                 self.assertEqual((done.returncode, done.stdout), (1, b''))
                 self.assertRegex(done.stderr, b'^cpmdeps: a rule for make cannot have ')
 
-    def test_a_program_that_is_missing_comes_before_a_folder_and_the_script(self) -> None:
+    def test_a_program_that_is_missing_comes_before_the_script_and_that_before_a_folder(self) -> None:
         for message, words in [
             ('none.com', ['none.com', '--files', 'none', '--console', 'none.txt']),
-            ('none', [HI, '--files', 'none', '--files-b', 'other', '--console', 'none.txt']),
-            ('none.txt', [HI, '--files', self.work, '--console', 'none.txt']),
+            ('none.txt', [HI, '--files', 'none', '--files-b', 'other', '--console', 'none.txt']),
+            ('none.txt', [HI, '--disk', 'none', '--console', 'none.txt']),
+            ('none', [HI, '--files', 'none', '--files-b', 'other', '--typed', 'x']),
+            ('none', [HI, '--disk', 'none', '--files-b', 'other']),
         ]:
-            self.expect(1, '', f'cpmrun: cannot read {message}\n', *words)
+            for program in PROGRAM, DEPENDENCIES_PROGRAM, TRACE_PROGRAM:
+                self.expect_command(1, '', f'{program.name}: cannot read {message}\n', program, *words)
+
+    def test_a_disk_that_cannot_be_locked_comes_before_a_folder(self) -> None:
+        self.expect(1, '', 'cpmrun: cannot read none\n', HI, '--files', 'other', '--disk-b', 'none')
 
 
 class EdgesTest(ProgramTest):

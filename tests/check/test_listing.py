@@ -370,7 +370,8 @@ class ErrorTest(DependenciesTest):
         for message, words in [
             ('cannot read none.com', ['none.com']),
             ('cannot read none.txt', [HI, '--console', 'none.txt']),
-            ('cannot read none', [HI, '--files-b', 'none', '--console', 'none.txt']),
+            ('cannot read none.txt', [HI, '--files-b', 'none', '--console', 'none.txt']),
+            ('cannot read none', [long, '--files-b', 'none']),
             ('session refused 1', [long]),
             ('session refused 3', [HI, 'a\tb']),
             ('file C:X refused 1', [HI, '--files-c', folder]),

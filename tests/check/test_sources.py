@@ -49,6 +49,14 @@ class Function:
         return self.head[start.start():] if start else ''
 
     @property
+    def parameters(self) -> list[str]:
+        """Its parameters, without what is in brackets in their types."""
+        text = self.head.split(f'fn {self.name.rpartition("::")[2]}', 1)[1].replace('->', '')
+        while (shorter := re.sub(r'<[^<>]*>|\[[^][]*\]|(?<=[ &])\([^()]*\)', '', text)) != text:
+            text = shorter
+        return [each.strip() for each in text.partition('(')[2].partition(')')[0].split(',') if each.strip()]
+
+    @property
     def is_law(self) -> bool:
         """Whether its contract is a theorem: it has no parameter and an empty body, and no code needs to call it."""
         return self.head.startswith(f'pub fn {self.name}()\n') and not self.body
@@ -118,12 +126,12 @@ MAY_REPORT_OUT_OF_MEMORY = {
     'disks': 'disks_of lock_disks same_folders',
     'edit_lines': 'execute_edit hex_bytes',
     'faults': 'message report_fault status',
-    'folders': 'note read_failure set write_failure',
+    'folders': 'note read_failure set without_memory write_failure',
     'hostfiles': 'number',
     'loading': 'read_fault typed_bytes',
     'make_rules': 'refusal',
     'one_run': 'run_to_end write_both',
-    'plan': 'look_into put remove uncommitted unprepared',
+    'plan': 'look_into put remove unprepared',
     'replay': 'number',
     'requests': 'clash_fault program_words request_of_error taken_fault',
 }
@@ -218,13 +226,14 @@ class SourcesTest(RuleTest):
         self.refuse(in_code(r'\b(execute|instructions)\b', 'machine/', 'known_run/', *crates))
 
     def test_machine_exports_no_instruction_and_no_call_and_gives_no_other_name(self) -> None:
-        """The crates above list none of these four, so an export of `machine` is all that could let them execute or call."""
+        """Most crates above list none of these four, so an export of `machine` is all that could let them execute or call."""
         exports = in_code(r'\bpub use\b.*(\b(i8080|known_run|console_calls|bdos)\b.*\b[a-z]|\bas\b)')
         self.refuse(line for line in exports if line.startswith('crates/machine/'))
 
     def test_only_machine_makes_calls(self) -> None:
-        """Others list bdos for its definitions and its small functions, so they could execute calls that no meter counts."""
+        """Others list bdos or console_calls for definitions and small functions, so they could execute calls that no meter counts."""
         self.refuse(in_code(CALLS, 'machine/'))
+        self.refuse(in_code(r'\bconsole_call\b', 'console_calls/', 'bdos/'))
 
     def test_only_one_run_and_what_lists_or_traces_a_run_names_a_run(self) -> None:
         """A `Run` executes steps that no meter counts: an edit that ran the session once more by it would have the same contract."""
@@ -237,15 +246,15 @@ class SourcesTest(RuleTest):
         self.expect_count(1, r'\brun_and_note\(', LOOP)
 
     def test_a_file_is_only_written_where_there_is_none(self) -> None:
-        """No contract says how a file is opened. One function opens what is at a path as a shell's `>` does: for what is written piece by
-        piece, and for reports whose path is a device, a pipe or a link, which nothing replaces."""
+        """No contract says how a file is opened. One function opens what is at a path as a shell's `>` does, for what is written piece by
+        piece, such as a report whose path is a device, a pipe or a link, which nothing replaces."""
         self.refuse(in_code(r'\b(create|truncate|append)\((true|false)\)|\bFile::create\b|\bfs::write\b', SYSTEM))
         self.expect_count(2, r'\b(create|truncate|append)\((true|false)\)|\bFile::create\b|\bfs::write\b', SYSTEM)
         self.expect_count(1, r'\bwrite\(true\)\.create\(true\)\.truncate\(true\)', SYSTEM)
         self.expect_count(1, r'\bcreate_new\(true\)', SYSTEM)
         through = [f'{path.split("/")[0]}::{function.name.split("::")[-1]}' for path, code in product_code().items()
-                   for function in functions_of(code) if re.search(r'truncate\(true\)|\b(open_to_write|write_through)\(', function.body)]
-        self.assertEqual(sorted(through), [f'folders::{name}' for name in ('destination_at', 'open_to_write', 'write_into', 'write_through')])
+                   for function in functions_of(code) if re.search(r'truncate\(true\)|\bopen_to_write\(', function.body)]
+        self.assertEqual(sorted(through), ['folders::destination_at', 'folders::open_to_write'])
 
     def test_no_macro_is_defined(self) -> None:
         """A macro can write any name, past all these rules."""
@@ -253,8 +262,9 @@ class SourcesTest(RuleTest):
 
     def test_crates_above_replay_do_not_ask_what_was_looked_at(self) -> None:
         """The state of a run that has ended is public; a reply is about what the run did, and not about its looks. A call that is tried has
-        looks of its own."""
-        self.refuse(in_code(r'\blooked\b', 'pagemem/', 'console_calls/', 'hostfiles/', 'machine/', 'replay/', 'accesses/'))
+        looks of its own, and what becomes of disks depends on looks for the BIOS."""
+        self.refuse(in_code(r'\blooked\(|::looked\b', 'pagemem/', 'console_calls/', 'hostfiles/', 'machine/', 'replay/', 'accesses/'))
+        self.refuse(in_code(r'\bbios_look\b', 'dependencies/', 'cpmrun/src/disks_after.rt'))
 
     def test_a_checkpoint_holds_no_looks_and_no_text_and_shares_its_pages(self) -> None:
         """No contract says how much memory a value holds, and no other field would change a reply."""
@@ -305,6 +315,11 @@ class SourcesTest(RuleTest):
         may = re.compile(r' *(//|#\[|ghost use|use |pub use|"|help: ")')
         paths = [path for crate in read_crates() if not crate.is_test for path in crate.sources()]
         self.refuse(place for path in paths for line, place in lines_of(path) if len(line) > 110 and not may.match(line))
+
+    def test_functions_have_at_most_six_parameters(self) -> None:
+        functions = [(path, function) for path, code in product_code().items() for function in functions_of(code)]
+        self.assertGreater(max(len(function.parameters) for _, function in functions), 5)
+        self.refuse(f'crates/{path}: {function.name}' for path, function in functions if len(function.parameters) > 6)
 
     def test_manuals_are_cited_in_brackets_with_year_and_part(self) -> None:
         """docs/DECISIONS.md lists the forms under "Sources"."""

@@ -43,14 +43,14 @@ class TextTest(ProgramTest):
         super().setUp()
         self.environment = {**os.environ, 'TERM': 'xterm', 'LD_PRELOAD': str(build_library('clock', self.work))}
 
-    def words(self, program: bytes, limit: int = 4_000_000_000) -> list[str]:
-        return [str(PROGRAM), str(self.put('program.com', program)), '--limit', str(limit)]
+    def words(self, program: bytes, limit: int = 4_000_000_000, *more: str) -> list[str]:
+        return [str(PROGRAM), str(self.put('program.com', program)), '--limit', str(limit), *more]
 
-    def on_terminal(self, program: bytes, limit: int = 4_000_000_000, **environment: str) -> bytes:
+    def on_terminal(self, program: bytes, limit: int = 4_000_000_000, *more: str, **environment: str) -> bytes:
         """Returns what a run writes to a terminal that is its standard output and its standard error."""
         terminal, end = pty.openpty()
         tty.setraw(end)
-        process = subprocess.Popen(self.words(program, limit), stdin=subprocess.DEVNULL, stdout=end, stderr=end,
+        process = subprocess.Popen(self.words(program, limit, *more), stdin=subprocess.DEVNULL, stdout=end, stderr=end,
                                    env={**self.environment, **environment})
         os.close(end)
         text = b''
@@ -107,6 +107,12 @@ class TerminalTest(TextTest):
     def test_the_steps_are_wiped_before_the_stop(self) -> None:
         shown = b''.join(show(millions) + WIPE for millions in (1, 3, 5))
         self.assertEqual(self.on_terminal(SPIN, 6_000_000), shown + b'stop Limit\n')
+
+    def test_the_steps_are_wiped_before_a_rule(self) -> None:
+        for path in '-', '/dev/stderr':
+            text = self.on_terminal(SPIN, 6_000_000, '--deps', path, '--target', 'out')
+            self.assertTrue(text.partition(b'out: ')[0].endswith(b'steps' + WIPE), text)
+            self.assertTrue(text.endswith(b'\nstop Limit\n'), text)
 
     def test_another_kind_of_terminal_shows_nothing(self) -> None:
         self.assertEqual(self.on_terminal(SPIN, 6_000_000, TERM='dumb'), b'stop Limit\n')

@@ -1,9 +1,12 @@
 /* Preloaded before a program, makes one of its calls of the system fail: of those whose letters are in FAIL_CALLS, the one
-   whose number REFUSE_AT gives, counted from 1. It leaves an empty file at the path REFUSE_MARK to show that it did. The letters
+   whose number REFUSE_AT gives, counted from 1, or each if that is 0. The error is EIO, or the one whose number FAIL_ERROR
+   gives. It leaves an empty file at the path REFUSE_MARK to show that it did. The letters
    are o for open, r for read, w for write except to standard error, d for the entries of a folder, s for the state of a file,
    p for the path of a link or of a folder, l for lock, m for mode, y for sync, n for rename and link, and u for unlink. If
-   FAIL_KILLS is set, the process is killed before that call instead. If FAIL_LOG is set, each of the calls adds a line to the
-   file of that path: its letter and its paths. If FAIL_PIECES is set, a read or a write moves one byte at most. */
+   FAIL_KILLS is set, the process is killed before that call instead, and if FAIL_SAVES is set, the file of that path gets the
+   text "saved" before it. If FAIL_LOG is set, each of the calls adds a line to the file of that path: its letter and its paths.
+   If FAIL_PIECES is set, a read or a write moves one byte at most. If FAIL_SWAPS is set, all files have one inode, and each has
+   the number of its inode as that of its device. */
 #define _GNU_SOURCE
 #include <dlfcn.h>
 #include <errno.h>
@@ -43,12 +46,18 @@ static int fails_at(char letter, int file, const char *path, const char *other)
         return 0;
     append_line(letter, file, path, other);
     calls += 1;
-    if (at == NULL || mark == NULL || atol(at) != calls)
+    if (at == NULL || mark == NULL || (atol(at) != calls && atol(at) != 0))
         return 0;
     syscall(SYS_close, syscall(SYS_open, mark, O_WRONLY | O_CREAT, 0600));
     if (getenv("FAIL_KILLS") != NULL)
         kill(getpid(), SIGKILL);
-    errno = EIO;
+    if (getenv("FAIL_SAVES") != NULL) {
+        int saved = syscall(SYS_open, getenv("FAIL_SAVES"), O_WRONLY | O_CREAT | O_TRUNC, 0666);
+        syscall(SYS_write, saved, "saved", 5);
+        syscall(SYS_close, saved);
+        return 0;
+    }
+    errno = getenv("FAIL_ERROR") != NULL ? atoi(getenv("FAIL_ERROR")) : EIO;
     return 1;
 }
 
@@ -91,7 +100,13 @@ ssize_t getdents64(int folder, void *entries, size_t count)
 
 int statx(int folder, const char *path, int flags, unsigned mask, struct statx *state)
 {
-    return fails_at('s', folder, *path ? path : NULL, NULL) ? -1 : syscall(SYS_statx, folder, path, flags, mask, state);
+    if (fails_at('s', folder, *path ? path : NULL, NULL) || syscall(SYS_statx, folder, path, flags, mask, state) != 0)
+        return -1;
+    if (getenv("FAIL_SWAPS") != NULL) {
+        state->stx_dev_minor = state->stx_ino & 0xFFFFF;
+        state->stx_ino = 1;
+    }
+    return 0;
 }
 
 ssize_t readlink(const char *path, char *bytes, size_t count)
