@@ -1,5 +1,5 @@
 -- A run, while its steps are executed.
-use Rattle.std.proofs.Common.{inl, inr, ◌≡◌, ◌≢◌, ℕ, ◌+◌, ◌<◌, ◌≤◌, ◌⊎◌, List, true, false, length, max, Option, Some, None, Ok, Err, refl, sym, ◌∙◌, ap, subst, arith, IfErr, IfOk, IfSome, OnErr, OnOk}
+use Rattle.std.proofs.Common.{inl, inr, ◌≡◌, ◌≢◌, ℕ, ◌+◌, ◌<◌, ◌≤◌, ◌⊎◌, true, false, length, max, Option, Some, None, Ok, Err, refl, sym, ◌∙◌, ap, subst, arith, IfErr, IfOk, IfSome, OnErr, OnOk}
 use Rattle.std.proofs.lemmas.Bool.{cases_lt}
 use Rattle.std.proofs.lemmas.Bool.Decides.{eqb_tells}
 use Rattle.std.proofs.Math.Nat.{eq-or-lt_of_le}
@@ -9,7 +9,7 @@ use Rattle.console_calls.specs.declared.cause.Cause.{Cause}
 use Rattle.first_looks.specs.FirstLooks.{with_seen}
 use Rattle.interaction_trees.specs.Outcome.{Stop}
 use Rattle.interaction_trees.proofs.RunLemmas.{after_step}
-use Rattle.pagemem.specs.Image.{image_at}
+use Rattle.pagemem.specs.ImageParts.{image_with}
 use Rattle.machine.specs.declared.noting.Noting.{Noting}
 use Rattle.machine.specs.declared.noting.Noting.TheVariants.{Failed, Looks, Nothing}
 use Rattle.machine.specs.declared.noting.RunNotes.{RunNotes}
@@ -125,7 +125,7 @@ module _ (s : Session) (n : ℕ) (old : StateView) (was is : RunNotes) (run : Is
     pub taken : (k : ℕ) → asked_by k stop ≡ n + 1 → IsAt s k new is
     taken k asked = record {
       at = at stop took asked;
-      bound = ap (λ (parts : List ℕ × List ℕ). image_at parts.0 parts.1) beneath ∙ bound;
+      bound = ap image_with beneath ∙ bound;
       first = noted.first;
       seen_in = noted.seen_in;
       noted = λ l. (low stop asked (noted.seen l), noted.all l);

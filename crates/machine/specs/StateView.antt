@@ -5,6 +5,7 @@ use Rattle.std.specs.FinMap.{FinMap, code}
 use Rattle.std.specs.Cmp.Lexicographic.{slice_cmp}
 use Rattle.std.specs.Coded.{Coded, code_by, coded_ℕ, coded_list, coded_option, coded×}
 use base.Stored.{coded_unit}
+use Rattle.pagemem.specs.ImageParts.{ImageParts}
 use Rattle.hostfiles.specs.Order.{record_cmp}
 use Rattle.console_calls.specs.declared.script_looks.ScriptLooks.{ScriptLooks}
 use Rattle.hostfiles.specs.Hosts.{Host}
@@ -77,8 +78,8 @@ pub record AllLooks : Type 0 where
   pub offsets : ScriptLooks
   pub files : FileLooks
 
--- A state and its looks, with page zero and the program of the image that its known cells belong to.
+-- A state and its looks, with the parts of the image that its known cells belong to.
 pub record StateView : Type 0 where
   pub state : PartialState
   pub looked : AllLooks
-  pub beneath : List ℕ × List ℕ
+  pub beneath : ImageParts

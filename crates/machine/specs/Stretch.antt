@@ -4,12 +4,13 @@ use Rattle.std.specs.declared.result.Result.{Result}
 use Rattle.std.specs.declared.alloc.AllocError.{AllocError}
 use Rattle.interaction_trees.specs.Outcome.{Stop}
 use Rattle.console_calls.specs.declared.cause.Cause.{Cause}
+use Rattle.pagemem.specs.ImageParts.{image_with}
 use Rattle.machine.specs.Inputs.{Session}
 use Rattle.machine.specs.declared.stretch.Until.{Until}
 use Rattle.machine.specs.declared.stretch.Until.TheVariants.{End, Call, EndUnnoted}
 use Rattle.machine.specs.StateView.{AllLooks, PartialState, StateView}
 use Rattle.machine.specs.Step.{is_call}
-use Rattle.machine.specs.Bound.{image_beneath, IsBound}
+use Rattle.machine.specs.Bound.{IsBound}
 use Rattle.first_looks.specs.declared.question.Question.{Question}
 use Rattle.first_looks.specs.Questions.{is_in}
 use Rattle.machine.specs.Machine.{Answers, session_answers, after, outcome, looks, is_looked_at}
@@ -38,7 +39,7 @@ pub record GoesQuietly (s : Session) (from n : ℕ) (looked : AllLooks) (new : P
 pub record RunsQuietly (n : ℕ) (old new : StateView) : Type 0 where
   pub goes : (s : Session) (from : ℕ) → StartsIn s from old → GoesQuietly s from n old.looked new.state
   pub looked : new.looked ≡ old.looked
-  pub beneath : image_beneath new ≡ image_beneath old
+  pub beneath : image_with new.beneath ≡ image_with old.beneath
 
 -- Whether a run ends when it cannot note a step.
 abbrev pub needs_notes : Until → Bool

@@ -1,12 +1,12 @@
 -- A step over pages. (This project's own.)
-use Rattle.std.specs.Prelude.{◌≡◌, ℕ, List, Option, Some, None, IfOk, OnOk, OnErr, IfSome}
+use Rattle.std.specs.Prelude.{◌≡◌, Option, Some, None, IfOk, OnOk, OnErr, IfSome}
 use Rattle.std.specs.declared.result.Result.{Result}
 use Rattle.std.specs.declared.alloc.AllocError.{AllocError}
 use Rattle.interaction_trees.specs.Outcome.{Outcome, Step, Stop}
 use Rattle.i8080.specs.declared.registers.Regs.{Regs}
 use Rattle.i8080.specs.Memory.{Memory}
 use Rattle.pagemem.specs.declared.overlay.Overlay.{Overlay}
-use Rattle.pagemem.specs.Overlay.{own_of, looks_of}
+use Rattle.pagemem.specs.Overlay.{own_of, looks_of, parts_beneath}
 use Rattle.console_calls.specs.declared.cause.Cause.{Cause}
 use Rattle.std.specs.Borrow.{GName}
 use Rattle.hostfiles.specs.declared.changes.Changes.{Changes}
@@ -33,10 +33,6 @@ outcome_from (Some cause) st = Stop cause
 -- The looks of an overlay and devices.
 abbrev pub looks_in : Overlay → DeskAndFiles → AllLooks
 looks_in o d = record { cells = looks_of o; offsets = d.offsets; files = d.asks }
-
--- Page zero and the program of the image that the known cells of an overlay belong to.
-abbrev pub parts_beneath : Overlay → List ℕ × List ℕ
-parts_beneath o = (o.beneath.page_zero.value, o.beneath.program.value.items)
 
 -- The state with its looks of registers, devices and an overlay.
 abbrev pub view_with : Regs → DeskAndFiles → Overlay → StateView

@@ -95,7 +95,7 @@ impl State {
 
 impl SavedState {
     ghost use Rattle.pagemem.specs.Overlay.{own_of, looks_of, beneath_of};
-    ghost use Rattle.machine.specs.Bound.{image_beneath};
+    ghost use Rattle.pagemem.specs.ImageParts.{image_with};
     ghost use Rattle.machine.specs.Machine.{cell_at};
     ghost use Rattle.machine.specs.Session.{image_of};
 
@@ -144,7 +144,7 @@ impl SavedState {
         requires text { length text.items ≡ self.now.length }
         ensures state { result.state ≡ state_with_text self.now text.items }
         ensures looked { HasNoLooks result.looked }
-        ensures beneath { image_beneath result ≡ beneath_of overlay }
+        ensures beneath { image_with result.beneath ≡ beneath_of overlay }
     {
         State {
             regs: self.regs,

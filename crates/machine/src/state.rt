@@ -27,10 +27,10 @@ pub struct State {
 
 impl Model for State {
     ghost use Rattle.std.specs.Coded.{codes};
-    ghost use Rattle.pagemem.specs.Overlay.{own_of};
+    ghost use Rattle.pagemem.specs.Overlay.{own_of, parts_beneath};
     ghost use Rattle.machine.specs.StateView.{StateView, cells_code, changes_code, looks_code};
     ghost use Rattle.machine.specs.WrittenCells.{devices_of, state_with};
-    ghost use Rattle.machine.specs.TakesStep.{looks_in, parts_beneath};
+    ghost use Rattle.machine.specs.TakesStep.{looks_in};
 
     ghost Value = { StateView };
 

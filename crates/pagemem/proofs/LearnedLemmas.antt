@@ -24,7 +24,7 @@ bytes_at_most None = omega arith
 bytes_at_most (Some op) = omega (arith, operands_at_most op)
 
 -- And at least one.
-bytes_at_least : (o : Option Op) → 0 < byte_count o
+pub bytes_at_least : (o : Option Op) → 0 < byte_count o
 bytes_at_least None = omega arith
 bytes_at_least (Some op) = omega arith
 

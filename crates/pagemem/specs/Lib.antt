@@ -4,8 +4,10 @@ pub mod Learned
 pub mod Known
 pub mod Beneath
 pub mod Image
+pub mod ImageParts
 pub mod ImageView
 pub mod Pages
 pub mod Cells
 pub mod CellMarks
 pub mod Overlay
+pub mod View

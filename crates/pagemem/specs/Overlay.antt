@@ -5,7 +5,9 @@ use Rattle.pagemem.specs.declared.image.Image.{Image}
 use Rattle.pagemem.specs.ImageView.{cells_of}
 use Rattle.pagemem.specs.declared.overlay.Overlay.{Overlay}
 use Rattle.pagemem.specs.Cells.{own_in, is_ready_in}
-use Rattle.pagemem.specs.Beneath.{cells_beneath}
+use Rattle.pagemem.specs.Known.{is_known, is_readable, opcode_in}
+use Rattle.pagemem.specs.Beneath.{parts_in, cells_beneath}
+use Rattle.pagemem.specs.ImageParts.{ImageParts}
 
 -- The byte last written to each cell, if any.
 abbrev pub own_of : Overlay → Own
@@ -19,7 +21,23 @@ looks_of o = o.looks
 abbrev pub is_ready_at : Overlay → ℕ → Bool
 is_ready_at o = is_ready_in o.cells
 
--- The byte of each cell of the image that the known cells belong to.
+-- Whether a cell is known.
+abbrev pub is_known_at : Overlay → ℕ → Bool
+is_known_at o = is_known o.known
+
+-- Whether a byte of an instruction may be read without a test.
+abbrev pub is_readable_at : Overlay → ℕ → Bool
+is_readable_at o = is_readable o.known
+
+-- The learned opcode of a cell, or HLT if it has none.
+abbrev pub opcode_at : Overlay → ℕ → ℕ
+opcode_at o = opcode_in o.known
+
+-- The parts of the image that the known cells belong to.
+abbrev pub parts_beneath : Overlay → ImageParts
+parts_beneath o = parts_in o.beneath
+
+-- The byte of each cell of that image.
 abbrev pub beneath_of : Overlay → ℕ → ℕ
 beneath_of o = cells_beneath o.beneath
 

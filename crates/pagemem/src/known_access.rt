@@ -1,6 +1,5 @@
 ghost use Rattle.std.specs.Prelude.{ℕ, Bool, false};
-ghost use Rattle.pagemem.specs.Known.{is_readable};
-ghost use Rattle.pagemem.specs.Overlay.{is_ready_at, memory_of};
+ghost use Rattle.pagemem.specs.Overlay.{is_ready_at, is_readable_at, memory_of};
 ghost use Rattle.pagemem.specs.declared.known.TheConstants.{SYSTEM_AREA};
 
 use crate::overlay::Overlay;
@@ -20,7 +19,7 @@ impl Access for Overlay {
 
     ghost is_sure = { false };
 
-    ghost is_readable = { λ o. is_readable o.known };
+    ghost is_readable = { λ o. is_readable_at o };
 
     ghost opcode_limit = { SYSTEM_AREA };
 

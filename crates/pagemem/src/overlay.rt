@@ -8,7 +8,7 @@ ghost use Rattle.pagemem.specs.Cells.{own_in, is_ready_in};
 ghost use Rattle.i8080.specs.Attempts.{IsKept};
 ghost use Rattle.i8080.specs.Opcodes.{decoded};
 ghost use Rattle.i8080.specs.Operands.{byte_count};
-ghost use Rattle.pagemem.specs.Known.{is_known, byte_in, opcode_in, AreKnownCells, IsKnownCell, IsWholeAt};
+ghost use Rattle.pagemem.specs.Known.{is_known, byte_in, AreKnownCells, IsKnownCell};
 ghost use Rattle.pagemem.specs.Learned.{AreKnown};
 ghost use Rattle.pagemem.specs.Beneath.{cells_beneath};
 
@@ -51,7 +51,7 @@ impl BlankMarks {
 
 impl Overlay {
     ghost use Rattle.pagemem.specs.ImageView.{cells_of};
-    ghost use Rattle.pagemem.specs.Overlay.{own_of, looks_of, is_ready_at, beneath_of, memory_of, memory_over};
+    ghost use Rattle.pagemem.specs.Overlay.{own_of, looks_of, is_ready_at, is_known_at, opcode_at, parts_beneath, beneath_of, memory_of, memory_over};
 
     /// Creates an overlay with nothing written and no looks. `Err` means out of memory.
     pub fn new(alloc: Global) -> Result<Overlay, AllocError>
@@ -112,7 +112,7 @@ impl Overlay {
         ensures cells { IfOk result (λ c. own_in c ≡ own_of self.old) }
         ensures shared { IfOk result (λ c. (q : ℕ) → is_ready_in c q ≡ false) }
         ensures memory { memory_of self.new ≡ memory_of self.old }
-        ensures beneath { self.new.beneath ≡ self.old.beneath }
+        ensures beneath { parts_beneath self.new ≡ parts_beneath self.old }
     {
         self.share()?;
         self.cells.snapshot()
@@ -189,7 +189,7 @@ impl Overlay {
         ensures value { IfSome result (λ v. v ≡ over (own_of self.now) (beneath_of self.now) a) }
         ensures unlooked { IfSome result (λ _.
             look (own_of self.now) (looks_of self.now) a ≡ looks_of self.now) }
-        ensures unknown { IfNone result (is_known self.now.known a ≡ false) }
+        ensures unknown { IfNone result (is_known_at self.now a ≡ false) }
     {
         self.known.get(a)
     }
@@ -197,12 +197,12 @@ impl Overlay {
     /// Returns the learned opcode of a cell, or HLT if it has none. This is no new look.
     #[inline(always)]
     pub fn learned_opcode(&self, a: u16) -> u8
-        ensures kept { result ≡ opcode_in self.now.known a }
+        ensures kept { result ≡ opcode_at self.now a }
         ensures value { IsKept result → result ≡ over (own_of self.now) (beneath_of self.now) a }
         ensures unlooked { IsKept result
             → look (own_of self.now) (looks_of self.now) a ≡ looks_of self.now }
         ensures operand { IsKept result
-            → AreKnown (is_known self.now.known) a (byte_count (decoded result)) }
+            → AreKnown (is_known_at self.now) a (byte_count (decoded result)) }
         ensures low { IsKept result → a < SYSTEM_AREA }
     {
         self.known.opcode(a)
@@ -214,9 +214,10 @@ impl Overlay {
     pub fn learn_opcode(&mut self, a: u16)
         ensures memory { memory_of self.new ≡ memory_of self.old }
         ensures ready { is_ready_at self.new ≡ is_ready_at self.old }
-        ensures beneath { self.new.beneath ≡ self.old.beneath }
-        ensures learned { IsWholeAt self.old.known a → a < SYSTEM_AREA
-            → opcode_in self.new.known a ≡ byte_in self.old.known a }
+        ensures beneath { parts_beneath self.new ≡ parts_beneath self.old }
+        ensures learned { AreKnown (is_known_at self.old) a
+            (byte_count (decoded (bytes (memory_of self.old) a))) → a < SYSTEM_AREA
+            → opcode_at self.new a ≡ bytes (memory_of self.old) a }
     {
         self.known.learn_opcode(a)
     }
@@ -414,7 +415,7 @@ impl Overlay {
         ensures shared { OnOk result ((q : ℕ) → is_ready_at self.new q ≡ false) }
         ensures refused { OnErr result ((q : ℕ) × IsTrue (is_ready_at self.old q)) }
         ensures memory { memory_of self.new ≡ memory_of self.old }
-        ensures beneath { self.new.beneath ≡ self.old.beneath }
+        ensures beneath { parts_beneath self.new ≡ parts_beneath self.old }
     {
         self.cells.share()
     }

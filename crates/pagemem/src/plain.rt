@@ -1,5 +1,4 @@
-ghost use Rattle.std.specs.Prelude.{◌≡◌, ℕ, Bool, true, None, [], vec_len};
-ghost use Rattle.pagemem.specs.Plain.{plain_own};
+ghost use Rattle.std.specs.Prelude.{◌≡◌, ℕ, Bool, true, vec_len};
 
 use i8080::Bus;
 use std::alloc::AllocError;
@@ -12,22 +11,21 @@ pub struct PlainMemory {
 }
 
 impl PlainMemory {
+    ghost use Rattle.pagemem.specs.Plain.{plain_own, plain_memory};
+
     /// Creates a memory of 65,536 bytes.
     pub fn new(bytes: Vec<u8>) -> PlainMemory
         requires { vec_len bytes ≡ 65536 }
-        ensures { plain_own result.bytes.items ≡ plain_own bytes.items }
+        ensures { (plain_memory result).own ≡ plain_own bytes.items }
     {
         PlainMemory { bytes }
     }
 }
 
 impl Bus for PlainMemory {
-    ghost memory = { λ m. record {
-      own = plain_own m.bytes.items;
-      beneath = λ _. 0;
-      looks = [];
-      lender = None;
-    } };
+    ghost use Rattle.pagemem.specs.Plain.{plain_memory};
+
+    ghost memory = { λ m. plain_memory m };
 
     ghost is_ready = { λ _. λ _. true };
 

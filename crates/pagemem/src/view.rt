@@ -1,5 +1,5 @@
-ghost use Rattle.std.specs.Prelude.{◌≡◌, ℕ, Bool, Some};
-ghost use Rattle.pagemem.specs.Overlay.{own_of, looks_of, is_ready_at, beneath_of};
+ghost use Rattle.std.specs.Prelude.{◌≡◌, ℕ, Bool};
+ghost use Rattle.pagemem.specs.Overlay.{is_ready_at, beneath_of};
 ghost use Rattle.pagemem.specs.ImageView.{cells_of};
 
 use crate::image::Image;
@@ -15,11 +15,13 @@ pub struct View<'a> {
 }
 
 impl<'a> View<'a> {
+    ghost use Rattle.pagemem.specs.View.{image_in, overlay_in};
+
     /// Joins an image and an overlay, which is lent for as long as the view exists.
     #[inline(always)]
     pub fn new(image: Image<'a>, overlay: &'a mut Overlay) -> View<'a>
-        ensures image { result.image ≡ image.entry }
-        ensures overlay { result.overlay ≡ overlay.entry }
+        ensures image { image_in result ≡ image.entry }
+        ensures overlay { overlay_in result ≡ overlay.entry }
     {
         View { image, overlay }
     }
@@ -34,26 +36,25 @@ pub struct LearningView<'a> {
 }
 
 impl<'a> LearningView<'a> {
+    ghost use Rattle.pagemem.specs.View.{learning_image, learning_overlay};
+
     /// Joins the image and the overlay, which is lent for as long as the view exists.
     #[inline(always)]
     pub fn new(image: Image<'a>, overlay: &'a mut Overlay) -> LearningView<'a>
         requires { beneath_of overlay.old ≡ cells_of image }
-        ensures image { result.image ≡ image.entry }
-        ensures overlay { result.overlay ≡ overlay.entry }
+        ensures image { learning_image result ≡ image.entry }
+        ensures overlay { learning_overlay result ≡ overlay.entry }
     {
         LearningView { image, overlay }
     }
 }
 
 impl Bus for View<'_> {
-    ghost memory = { λ v. record {
-      own = own_of v.overlay.now;
-      beneath = cells_of v.image;
-      looks = looks_of v.overlay.now;
-      lender = Some v.overlay.ghost_name;
-    } };
+    ghost use Rattle.pagemem.specs.View.{memory_lent, image_in, overlay_in};
 
-    ghost is_ready = { λ v. is_ready_at v.overlay.now };
+    ghost memory = { λ v. memory_lent (image_in v) (overlay_in v) };
+
+    ghost is_ready = { λ v. is_ready_at (overlay_in v).now };
 
     #[inline(always)]
     fn ready(&mut self, a: u16) -> Result<(), AllocError> {
@@ -86,14 +87,11 @@ impl Bus for View<'_> {
 }
 
 impl Bus for LearningView<'_> {
-    ghost memory = { λ v. record {
-      own = own_of v.overlay.now;
-      beneath = cells_of v.image;
-      looks = looks_of v.overlay.now;
-      lender = Some v.overlay.ghost_name;
-    } };
+    ghost use Rattle.pagemem.specs.View.{memory_lent, learning_image, learning_overlay};
 
-    ghost is_ready = { λ v. is_ready_at v.overlay.now };
+    ghost memory = { λ v. memory_lent (learning_image v) (learning_overlay v) };
+
+    ghost is_ready = { λ v. is_ready_at (learning_overlay v).now };
 
     #[inline(always)]
     fn ready(&mut self, a: u16) -> Result<(), AllocError> {
