@@ -202,6 +202,6 @@ pub fn dependency_command<S: FileSystem, O: Writer, E: Writer>(
 {
     match run(system, words, out, err) {
         Ok(()) => 0,
-        Err(fault) => report_fault(system.alloc(), Tool::Cpmdeps, fault, err),
+        Err(fault) => report_fault(Tool::Cpmdeps, fault, err),
     }
 }

@@ -18,7 +18,7 @@ fn main(rt: HostRuntime) -> ExitCode {
     let mut err = Terminal::new(&rt, rt.stderr());
     let words = match program_words(&rt) {
         Ok(words) => words,
-        Err(fault) => return ExitCode::from(report_fault(rt.alloc(), tool, fault, &mut err)),
+        Err(fault) => return ExitCode::from(report_fault(tool, fault, &mut err)),
     };
     let words = words.as_slice();
     let mut system = SystemFiles::with_streams(&rt, rt.stdout(), rt.stderr());

@@ -1,7 +1,7 @@
 -- The statuses of errors.
-use Rattle.std.proofs.Common.{◌≡◌, ◌∙◌, ℕ, inl, inr, sym}
+use Rattle.std.proofs.Common.{◌≡◌, ◌∙◌, ℕ, sym}
 use Rattle.streams.specs.Streams.{Output}
-use Rattle.faults.specs.Faults.{ReportsFaultOrMemory, status_of}
+use Rattle.faults.specs.Faults.{ReportsFault, status_of}
 use Rattle.faults.specs.declared.tool.Tool.{Tool}
 use Rattle.faults.specs.declared.fault.Fault.{Fault}
 use Rattle.faults.specs.declared.fault.Fault.TheVariants.{Usage, BadEscape, NotText, CannotRead, CannotWrite, DiskUnchanged, Folders, Refused, Malformed, TooLong, RulePath, OutOfMemory}
@@ -22,6 +22,5 @@ status_above (RulePath path) e = cc
 status_above OutOfMemory e = cc
 
 -- A program that reports an error does not end with the status 0.
-pub faults_are_told : (tool : Tool) (f : Fault) (status : ℕ) (before after : Output) → ReportsFaultOrMemory tool f status before after → status ≡ 0 → ⊥
-faults_are_told tool f status before after (inl h) e = status_above f (sym h.0 ∙ e)
-faults_are_told tool f status before after (inr h) e = status_above OutOfMemory (sym h.1.0 ∙ e)
+pub faults_are_told : (tool : Tool) (f : Fault) (status : ℕ) (before after : Output) → ReportsFault tool f status before after → status ≡ 0 → ⊥
+faults_are_told tool f status before after h e = status_above f (sym h.0 ∙ e)

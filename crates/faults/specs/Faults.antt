@@ -1,6 +1,7 @@
 -- The errors of the programs: the exit status and the message of each. (This project's own.)
 use Rattle.std.specs.Prelude.{◌≡◌, ℕ, ◌==◌, ◌||◌, Bool, nat_eq, nat_le, if◌then◌else◌, List, [], ◌∷◌, ◌⊎◌, ◌++◌, codes, string_bytes, take}
 use Rattle.std.specs.List.{ends_with, flat_map}
+use Rattle.std.specs.Borrow.{Bor}
 use Rattle.std.specs.Fmt.{decimal}
 use Rattle.std.specs.Str.{bytes_eq}
 use Rattle.folders.specs.Faults.{fault_paths, text_of}
@@ -9,8 +10,6 @@ use Rattle.folders.specs.declared.fault.Failure.{Failure}
 use Rattle.folders.specs.declared.fault.Failure.TheVariants as failure
 use Rattle.faults.specs.declared.fault.Fault.{Fault}
 use Rattle.faults.specs.declared.fault.Fault.TheVariants.{Usage, BadEscape, NotText, CannotRead, CannotWrite, DiskUnchanged, Folders, Refused, Malformed, TooLong, RulePath, OutOfMemory}
-use Rattle.faults.specs.declared.fault.Message.{Message}
-use Rattle.faults.specs.declared.fault.Message.TheVariants.{Fixed, Made, Line}
 use Rattle.faults.specs.declared.tool.Tool.{Tool}
 use Rattle.faults.specs.declared.tool.Tool.TheVariants.{Cpmrun, Cpmdeps, Cpmtrace}
 use Rattle.mnemonics.specs.Mnemonics.{digits}
@@ -60,6 +59,10 @@ shown_byte b =
 abbrev pub shown : List ℕ → List ℕ
 shown bytes = flat_map shown_byte bytes
 
+-- Pieces, one after another.
+abbrev pub joined : List (Bor (List ℕ)) → List ℕ
+joined pieces = flat_map (λ piece. piece.now) pieces
+
 -- A line of a program's messages.
 abbrev pub message_line : Tool → List ℕ → List ℕ
 message_line tool text = name_of tool ++ codes ": " ++ line (shown text)
@@ -89,12 +92,6 @@ message_of tool (TooLong k) = message_line tool (codes "line " ++ decimal k ++ c
 message_of tool (RulePath path) = message_line tool (codes "a rule for make cannot have the path " ++ string_bytes path)
 message_of tool OutOfMemory = message_line tool (codes "out of memory")
 
--- The bytes of a message.
-abbrev pub bytes_of : Message → List ℕ
-bytes_of (Fixed before name after) = before.now ++ name.now ++ after.now
-bytes_of (Made text) = string_bytes text
-bytes_of (Line name text) = name.now ++ codes ": " ++ line (shown (string_bytes text))
-
 -- What was written of a text before an error: a prefix of it, if writing it or an allocation failed.
 abbrev pub BreaksText : List ℕ → Output → Output → Fault → Type 0
 BreaksText text old new CannotWrite = WritesPart old new text
@@ -104,18 +101,3 @@ BreaksText text old new fault = ⊥
 -- The status is this error's, and its message was written, or a prefix of it if writing failed.
 abbrev pub ReportsFault : Tool → Fault → ℕ → Output → Output → Type 0
 ReportsFault tool f status before after = (status ≡ status_of f) × WritesOrFails before after (message_of tool f)
-
--- The message has a path, a name or a number put into it, and so needs memory.
-abbrev pub NamesAValue : Fault → Type 0
-NamesAValue (BadEscape text) = Unit {0}
-NamesAValue (CannotRead path) = Unit {0}
-NamesAValue (Folders f) = Unit {0}
-NamesAValue (Refused n) = Unit {0}
-NamesAValue (Malformed k) = Unit {0}
-NamesAValue (TooLong k) = Unit {0}
-NamesAValue (RulePath path) = Unit {0}
-NamesAValue fault = ⊥
-
--- The error was reported, or out of memory if there was no memory to put a value into its message.
-abbrev pub ReportsFaultOrMemory : Tool → Fault → ℕ → Output → Output → Type 0
-ReportsFaultOrMemory tool f status before after = ReportsFault tool f status before after ⊎ (NamesAValue f × ReportsFault tool OutOfMemory status before after)

@@ -1,13 +1,11 @@
-ghost use Rattle.std.specs.Prelude.{◌≡◌, ◌+◌, ◌∷◌, [], string_bytes};
-ghost use Rattle.std.specs.Fmt.{WritesOnOk};
-ghost use Rattle.filenames.specs.Drives.{drive_number};
+ghost use Rattle.std.specs.Prelude.{◌≡◌, string_bytes};
 ghost use Rattle.folders.specs.Failures.{io_paths};
-ghost use Rattle.folders.specs.Faults.{FailsBy, IsReadFault, IsWriteFault, failure_paths, others_text};
+ghost use Rattle.folders.specs.Faults.{FailsBy, IsReadFault, IsWriteFault, failure_paths};
 
-use filenames::{Drive, Name};
+use filenames::Name;
 use std::alloc::AllocError;
+use std::io;
 use std::io::ErrorKind;
-use std::{fmt, io};
 
 /// An error of a folder or of a file in it.
 #[derive(Drop)]
@@ -55,66 +53,6 @@ impl From<AllocError> for Failure {
 
     fn from(_: AllocError) -> Self {
         Self::OutOfMemory
-    }
-}
-
-impl fmt::Display for Fault {
-    ghost use Rattle.std.specs.Prelude.{Some};
-    ghost use Rattle.folders.specs.Faults.{text_of};
-
-    ghost output = { λ fault. Some (text_of fault) };
-
-    fn fmt<W: fmt::Write>(&self, f: &mut fmt::Formatter<W>) -> fmt::Result {
-        match self {
-            Fault::CannotRead(path) => write!(f, "cannot read {path}"),
-            Fault::CannotWrite(path) => write!(f, "cannot write {path}"),
-            Fault::CannotMove(path, other, others) => {
-                write!(f, "cannot write {path}: its contents are in {other}")?;
-                write_others(f, others.as_slice())
-            }
-            Fault::Changed(path) => write!(f, "cannot write {path}: it was changed meanwhile"),
-            Fault::Irregular(path) => write!(f, "cannot write {path}: it is no regular file"),
-            Fault::Crowded(path) => {
-                write!(
-                    f,
-                    "cannot write {path}: no temporary name beside it is free"
-                )
-            }
-            Fault::NoFolder(name) => {
-                let letter = letter(name.drive());
-                write!(f, "cannot write {name}: drive {letter} has no folder")
-            }
-            Fault::TwoFiles(name) => write!(f, "two files are {name}"),
-            Fault::TooManyFiles(path) => write!(f, "{path} would have more than 512 files"),
-            Fault::WouldBeTwo(name) => write!(f, "two files would be {name}"),
-            Fault::Refused(name, number) => write!(f, "file {name} refused {number}"),
-        }
-    }
-}
-
-// Writes the end of a message that names these paths too.
-fn write_others<W: fmt::Write>(f: &mut fmt::Formatter<W>, paths: &[String]) -> fmt::Result
-    ensures { WritesOnOk W.write_str_gives f.old result (others_text paths.now) f.new }
-{
-    let Some((first, others)) = paths.split_first() else {
-        return Ok(());
-    };
-    write!(f, ", those of other files in {first}")?;
-    for path in others {
-        write!(f, ", {path}")?;
-    }
-    Ok(())
-}
-
-// Returns the letter of a drive.
-fn letter(drive: Drive) -> &'static str
-    ensures { result.now ≡ (65 + drive_number drive) ∷ [] }
-{
-    match drive {
-        Drive::A => "A",
-        Drive::B => "B",
-        Drive::C => "C",
-        Drive::D => "D",
     }
 }
 

@@ -68,7 +68,7 @@ fn short_name(name: &str) -> &str
 }
 
 /// Returns a path at which the file of a path can first be written: in the same folder, with a `.` before its name and `.new` after it, or
-/// `.new.` and the number if that is not 0. The file of a long name is first written as that of the name `cpmrun`. No host file has such a
+/// `.new.` and the number if that is not 0. The file of a long name is first written as if its name were `cpmrun`. No host file has such a
 /// name on any drive, as it begins with a `.`.
 pub fn temporary_path(alloc: Global, path: &str, number: u32) -> Result<String, AllocError>
     ensures { IfOk result (λ s. IsTemporaryOf path.now (string_bytes s)) }

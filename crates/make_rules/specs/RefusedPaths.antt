@@ -1,7 +1,7 @@
 -- The paths among the words of a command line that a rule for make cannot have. (This project's profile.)
 use Rattle.std.specs.Prelude.{◌≡◌, ℕ, ◌⊎◌, ◌||◌, not, Bool, false, true, List, [], ◌∷◌, Option, Some, None, string_bytes}
 use Rattle.std.specs.Borrow.{Bor}
-use Rattle.std.specs.List.{Contains, list_any}
+use Rattle.std.specs.List.{find, list_any}
 use Rattle.command_words.specs.declared.words.SessionWords.{SessionWords}
 use Rattle.folders.specs.FileSystem.{Path}
 use Rattle.make_rules.specs.Carried.{is_carried}
@@ -50,17 +50,24 @@ abbrev pub refuses : Kind → Option (Bor (List ℕ)) → Bool
 refuses File = is_refused
 refuses Folder = is_refused_folder
 
--- An error for one of these paths that a rule cannot have.
+-- The error for the first of these paths that a rule cannot have.
 pub record IsRefusalIn (kind : Kind) (paths : List (Option (Bor (List ℕ)))) (fault : Fault) : Type 0 where
   pub word : Bor (List ℕ)
-  pub among : Contains paths (Some word)
-  pub refused : refuses kind (Some word) ≡ true
+  pub first : find (refuses kind) paths ≡ Some (Some word)
   pub is : IsRefused word.now fault
 
--- Why paths are not allowed: one of them is refused, or an allocation failed.
+-- Why paths are not allowed: the first that is refused, or an allocation failed.
 abbrev pub FailsEach : Kind → List (Option (Bor (List ℕ))) → Fault → Type 0
 FailsEach kind paths fault = IsRefusalIn kind paths fault ⊎ (fault ≡ OutOfMemory)
 
+-- The same for the paths of a rule: the files come first, then the folders that are read, and then the ones that are written.
+pub record FailsFolders (files written : List (Option (Bor (List ℕ)))) (fault : Fault) : Type 0 where
+  pub allowed : list_any is_refused_folder files ≡ false
+  pub fails : FailsEach Folder written fault
+
+pub record FailsAfter (paths files written : List (Option (Bor (List ℕ)))) (fault : Fault) : Type 0 where
+  pub allowed : list_any is_refused paths ≡ false
+  pub fails : FailsEach Folder files fault ⊎ FailsFolders files written fault
+
 abbrev pub FailsPaths : SessionWords → Bor (List ℕ) → List (Option (Bor (List ℕ))) → Fault → Type 0
-FailsPaths w path written fault =
-    FailsEach File (file_paths w path) fault ⊎ (FailsEach Folder w.files fault ⊎ FailsEach Folder written fault)
+FailsPaths w path written fault = FailsEach File (file_paths w path) fault ⊎ FailsAfter (file_paths w path) w.files written fault

@@ -57,7 +57,7 @@ fn check_each<'a>(alloc: Global, kind: Kind, paths: &[Option<&str>]) -> Result<(
 ///
 /// # Errors
 ///
-/// Returns `Err` with a path that it cannot have, or if an allocation fails.
+/// Returns `Err` with the first path that it cannot have, or if an allocation fails.
 pub fn check_paths<'a>(
     alloc: Global,
     words: &SessionWords<'_>,

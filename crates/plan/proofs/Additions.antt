@@ -52,7 +52,7 @@ module _ {C : Type 0} where
   pushed true deeds new d is apart own others itself = subst AreApart (sym is) (apart_push deeds d apart own others itself)
   pushed false deeds new d is apart own others itself = subst AreApart (sym is) apart
 
-  -- A path that is no temporary one, and not that of one more deed.
+  -- A path that is no temporary one, and not the path of one more deed.
   pub pushed_apart : (ok : Bool) (deeds new : List (Deed C)) (d : Deed C) (path : Path) → new ≡ cond ok (deeds ++ d ∷ []) deeds → IsNoTemporary path deeds
       → is_first_at path d ≡ false → IsNoTemporary path new
   pushed_apart true deeds new d path is others this = subst (IsNoTemporary path) (sym is) (All-push (λ e. is_first_at path e ≡ false) deeds d others this)

@@ -4,7 +4,7 @@ use Rattle.command_words.specs.Clashes.{Check}
 use Rattle.command_words.specs.declared.error_classes.ErrorClass.{ErrorClass}
 use Rattle.command_words.specs.declared.error_classes.ErrorClass.TheVariants.{Information}
 use Rattle.command_words.specs.declared.words.SessionWords.{SessionWords}
-use Rattle.faults.specs.Faults.{ReportsFaultOrMemory, file_paths}
+use Rattle.faults.specs.Faults.{ReportsFault, file_paths}
 use Rattle.faults.specs.declared.fault.Fault.{Fault}
 use Rattle.faults.specs.declared.tool.Tool.{Tool}
 use Rattle.folders.specs.DriveFolders.{AreListings}
@@ -75,14 +75,13 @@ FaultOf {W} p words before after fault =
     ⊎ FailsToInform (p.Has words) before after fault
     ⊎ ((w : W) × p.Are words w × Fails (p.task w) before after fault)
 
--- Such an error occurred and was reported with its status, or "out of memory" if there was no memory to put its value into the message. If
--- it says that something could not be read or written, its path is the last at which the file system failed, and the only one; if not, no
--- call of the file system failed.
+-- Such an error occurred and was reported with its status. If it says that something could not be read or written, its path is the last at
+-- which the file system failed, and the only one; if not, no call of the file system failed.
 pub record EndsByFault {W : Type 0} (p : Program W) (words : List (List ℕ)) (status : ℕ) (before after : World) : Type 0 where
   pub fault : Fault
   pub comes : FaultOf p words before after fault
   pub failed : after.files.failed ≡ file_paths fault ++ before.files.failed
-  pub reported : ReportsFaultOrMemory p.tool fault status before.err after.err
+  pub reported : ReportsFault p.tool fault status before.err after.err
 
 -- How a program ends. It has the status 0 only if there is no error.
 pub record Ends {W : Type 0} (p : Program W) (words : List (List ℕ)) (status : ℕ) (before after : World) : Type 0 where

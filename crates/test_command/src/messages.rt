@@ -16,7 +16,7 @@ c2345678901234567890123456789012345678901234567890123456789012345678901234567890
 fn is_reported(rt: &impl Abort, alloc: Global, fault: Fault<'_>, wanted: (&str, &str, u8)) {
     let (before, after, code) = wanted;
     let mut err = Over::new(Vec::new(alloc));
-    let status = report_fault(alloc, Tool::Cpmrun, fault, &mut err);
+    let status = report_fault(Tool::Cpmrun, fault, &mut err);
     let err = err.into_inner();
     let rest = err.as_slice().strip_prefix(b"cpmrun: ".as_slice());
     let rest = rest.and_then(|text| text.strip_prefix(before.as_bytes()));
@@ -148,7 +148,7 @@ fn a_fault_of_use_has_its_own_text(rt: HostRuntime) -> Result<(), Fail> {
     let used = Fault::Usage(text(alloc, "cpmrun: wrong words\n")?);
     is_reported(&rt, alloc, used, ("wrong ", "words", 1));
     let mut err = Over::new(Vec::new(alloc));
-    let status = report_fault(alloc, Tool::Cpmrun, Fault::NotText, &mut err);
+    let status = report_fault(Tool::Cpmrun, Fault::NotText, &mut err);
     let err = err.into_inner();
     assert!(&rt; status == 1 && err.as_slice() == NOT_TEXT.as_bytes());
     Ok(())

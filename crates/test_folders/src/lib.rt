@@ -1,7 +1,7 @@
 //! The tests of host folders, over files and folders that they write. Their acts call `folders` itself; those of `test_command`, which
 //! also begin with files in a folder, call the command alone. So each has its own.
 //!
-//! - `reading`, `writing`, `faults`, `calls`: tests over folders and files that they write
+//! - `reading`, `writing`, `failures`, `calls`: tests over folders and files that they write
 //! - `acts`: acts in the folder of a test, and the expected results
 //! - `listed`, `written`, `planned`: texts for folders that are read; files that a run made, and that are written; deeds of a plan
 #![tactic(auto)]
@@ -11,7 +11,7 @@ mod acts;
 #[cfg(test)]
 mod calls;
 #[cfg(test)]
-mod faults;
+mod failures;
 #[cfg(test)]
 mod listed;
 #[cfg(test)]

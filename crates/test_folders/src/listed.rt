@@ -1,10 +1,13 @@
 // Texts for folders that are read.
 
+use faults::{Fault, Tool, report_fault};
 use filenames::Name;
 use folders::{Failure, Listing, ReadFolders, SystemFiles, read_folders};
 use hostfiles::HostFiles;
 use std::alloc::{AllocError, Global};
+use std::str::from_utf8;
 use std::test::Fail;
+use streams::Over;
 
 /// A kind of text for host files.
 #[derive(Clone, Copy)]
@@ -25,7 +28,7 @@ pub fn told(
 ) -> Result<String, Fail> {
     match read_folders(&mut SystemFiles::new(rt), &folders) {
         Ok(read) => tell(rt.alloc(), &read, telling),
-        Err(failure) => Ok(text(rt.alloc(), &failure)?),
+        Err(failure) => Ok(text(rt.alloc(), failure)?),
     }
 }
 
@@ -59,12 +62,18 @@ fn both(alloc: Global, files: &HostFiles) -> Result<String, Fail> {
     Ok(String::from_str(alloc, told)?)
 }
 
-/// Returns the text for a failure.
-pub fn text(alloc: Global, failure: &Failure) -> Result<String, AllocError> {
-    match failure {
-        Failure::AtFault(fault) => format!(in alloc; "{fault}"),
-        Failure::OutOfMemory => String::from_str(alloc, "out of memory"),
-    }
+/// Returns the text for a failure: the message of a program without its name.
+pub fn text(alloc: Global, failure: Failure) -> Result<String, AllocError> {
+    let mut err = Over::new(Vec::new(alloc));
+    report_fault(Tool::Cpmrun, Fault::from(failure), &mut err);
+    let message = err.into_inner();
+    let message = from_utf8(message.as_slice()).unwrap_or("");
+    String::from_str(
+        alloc,
+        message
+            .trim_start_matches("cpmrun: ")
+            .trim_end_matches("\n"),
+    )
 }
 
 fn names(alloc: Global, files: &HostFiles) -> Result<String, AllocError> {

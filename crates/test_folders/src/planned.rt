@@ -125,6 +125,6 @@ fn add<'a, S: FileSystem>(
 pub fn text_of(alloc: Global, answer: Result<(), Failure>) -> Result<String, AllocError> {
     match answer {
         Ok(()) => Ok(String::new(alloc)),
-        Err(failure) => text(alloc, &failure),
+        Err(failure) => text(alloc, failure),
     }
 }

@@ -24,7 +24,7 @@ const CASES: &[Case<'_>] = &[
             Tells("", Some(3), Is(" D:#1 D:A.TXT D:B.DAT")),
         ],
     },
-    // A name that no file of a run gets is not that of new contents, and what is there need not be a file.
+    // New contents never have a name that no file of a run gets, and what is there need not be a file.
     Case {
         name: "what ended runs left is listed",
         acts: &[

@@ -125,7 +125,7 @@ pub fn place(rt: &HostRuntime, folder: &str, name: &str) -> Result<String, Fail>
     let name = Name::parse(name)?;
     match read_folders(&mut system, &[Some(folder); 4]) {
         Ok(read) => Ok(place_on(rt.alloc(), folder, &read.listings, &name)?),
-        Err(failure) => Ok(text(rt.alloc(), &failure)?),
+        Err(failure) => Ok(text(rt.alloc(), failure)?),
     }
 }
 

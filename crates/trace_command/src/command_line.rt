@@ -56,6 +56,6 @@ pub fn trace_command<S: FileSystem, O: Writer, E: Writer>(
 {
     match run(system, words, out) {
         Ok(()) => 0,
-        Err(fault) => report_fault(system.alloc(), Tool::Cpmtrace, fault, err),
+        Err(fault) => report_fault(Tool::Cpmtrace, fault, err),
     }
 }

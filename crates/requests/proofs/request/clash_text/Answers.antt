@@ -1,5 +1,5 @@
 use Rattle.std.proofs.Common.{◌≡◌, IfOk, codes, string_bytes, subst}
-use Rattle.faults.proofs.Messages.{five_regrouped}
+use Rattle.requests.proofs.Pieces.{five_regrouped}
 use Rattle.requests.proofs.request.clash_text.Goals as goal
 
 pub returns : goal.returns

@@ -1,6 +1,0 @@
-use Rattle.std.proofs.Common.{rules}
-use Rattle.streams.proofs.WrittenPieces.{writes_or_fails}
-use Rattle.faults.proofs.fault.write_message.Goals as goal
-
-pub returns : goal.returns
-returns g c = writes_or_fails _ _ _ c.finish.result (search rules)
