@@ -125,7 +125,7 @@ MAY_REPORT_OUT_OF_MEMORY = {
     'dependency_command': 'write_listing write_rule',
     'disks': 'disks_of lock_disks same_folders',
     'edit_lines': 'execute_edit hex_bytes',
-    'faults': 'message report_fault status',
+    'faults': 'push_message status',
     'folders': 'note read_failure set without_memory write_failure',
     'hostfiles': 'number',
     'loading': 'read_fault typed_bytes',

@@ -382,6 +382,17 @@ class ReportTest(SureTest):
             self.assertEqual((self.work / 'd/a').read_bytes(), RECORD)
             self.assertTrue((self.work / 'd' / name).read_text().startswith(f'{disk}/a: {self.work}/calls.com'))
 
+    def test_a_rule_is_no_file_of_a_disk(self) -> None:
+        """It would count as one, and the next run would read it. A name that is no CP/M name is free, and each name in a folder of `--out`."""
+        for option, name in ('--disk', 'rule'), ('--disk', 'New'), ('--disk', 'r.d'), ('--disk-c', 'rule'):
+            mistake = f"error: invalid value './d/{name}' for '--deps <FILE>': it would be a file of a disk\n\nFor more information, try '--help'.\n"
+            self.expect_end_of(1, mistake, self.program_of('22 NEW'), option, 'd', '--deps', f'./d/{name}')
+            self.expect_folder('d')
+        for option, name in ('--disk', '.rule'), ('--disk', 'rule.text'), ('--out', 'rule'):
+            self.put_disk()
+            self.expect_end_of(0, WARM_BOOT, self.program_of('22 NEW'), option, 'd', '--deps', f'./d/{name}')
+            self.expect_names(self.work / 'd', 'NEW', name)
+
     def test_a_rule_may_have_the_longest_name(self) -> None:
         self.put_disk('a')
         for name in 'r' * 251, 'r' * 255:

@@ -50,11 +50,12 @@ disk_options = codes "--disk <DIR>" ∷ codes "--disk-b <DIR>" ∷ codes "--disk
 abbrev pub session_checks : SessionWords → List Check
 session_checks w = script_check w.console w.typed ∷ drive_checks files_options disk_options w.own w.disk
 
--- Edit lines are replayed without a rule for make and without a trace, and a target is one of a rule for make.
+-- Edit lines are replayed without a rule for make and without a trace, and not as a dry run, and a target is one of a rule for make.
 abbrev pub report_checks : Words → List Check
 report_checks w =
     exclusive (are_both w.edits w.deps) (codes "--edits <FILE>") (codes "--deps <FILE>")
     ∷ exclusive (are_both w.edits w.trace) (codes "--edits <FILE>") (codes "--trace <FILE>")
+    ∷ exclusive (is_some w.edits && w.dry_run) (codes "--edits <FILE>") (codes "--dry-run")
     ∷ record { fails = is_some w.target && not (is_some w.deps); names = codes "--deps <FILE>" ∷ [] } ∷ []
 
 abbrev pub run_checks : Words → List Check

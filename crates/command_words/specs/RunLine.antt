@@ -8,13 +8,15 @@ use Rattle.command_words.specs.declared.words.SessionWords.{SessionWords}
 use Rattle.command_words.specs.declared.words.Words.{Words}
 
 -- The edit lines, the folders that are written to, the files of the rule for make and of the trace, and the rule's target; whether
--- disks are changed whatever the stop, the limit of steps, and how checkpoints are made.
+-- disks are changed whatever the stop, whether no file is changed, and whether the stop is explained; the limit of steps, and how checkpoints
+-- are made.
 abbrev pub run_rules : List Rule
 run_rules =
     path_rule (codes "edits")
     ∷ path_rule (codes "out") ∷ path_rule (codes "out-b") ∷ path_rule (codes "out-c") ∷ path_rule (codes "out-d")
     ∷ path_rule (codes "deps") ∷ path_rule (codes "target") ∷ path_rule (codes "trace")
-    ∷ flag_rule (codes "partial") ∷ limit_rule ∷ number_rule (codes "spacing") 1 1000000000 (codes "10000") ∷ number_rule (codes "slots") 1 4096 (codes "64") ∷ []
+    ∷ flag_rule (codes "partial") ∷ flag_rule (codes "dry-run") ∷ flag_rule (codes "explain") ∷ limit_rule
+    ∷ number_rule (codes "spacing") 1 1000000000 (codes "10000") ∷ number_rule (codes "slots") 1 4096 (codes "64") ∷ []
 
 -- The command line of `cpmrun` with all its arguments.
 abbrev pub run_line : App
@@ -54,5 +56,7 @@ pub record AreWordsOf (rows : List Row) (words : Words) : Type 0 where
   pub target : text_of words.target ≡ first_of (codes "target") rows
   pub trace : text_of words.trace ≡ first_of (codes "trace") rows
   pub partial : IsFlagOf rows (codes "partial") words.partial
+  pub dry_run : IsFlagOf rows (codes "dry-run") words.dry_run
+  pub explain : IsFlagOf rows (codes "explain") words.explain
   pub spacing : IsNumberOf rows (codes "spacing") words.spacing
   pub slots : IsNumberOf rows (codes "slots") words.slots

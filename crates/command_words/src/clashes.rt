@@ -39,6 +39,13 @@ fn first_failed(checks: &[Check<'_>]) -> Option<Clash>
     None
 }
 
+// Returns the name of a flag, if it is given.
+fn given<'a>(name: &'a str, flag: bool) -> Option<&'a str>
+    ensures { is_some result ≡ flag }
+{
+    if flag { Some(name) } else { None }
+}
+
 impl SessionWords<'_> {
     /// Returns the first two options that describe the session and exclude each other, if both are given.
     pub fn clash(&self) -> Option<Clash>
@@ -65,10 +72,12 @@ impl Words<'_> {
         let (console, typed) = (self.console, self.typed);
         let (edits, deps, trace) = (self.edits, self.deps, self.trace);
         let (own, out, disk) = (self.files, self.out, self.disk);
+        let dry_run = given("--dry-run", self.dry_run);
         first_failed(&[
             (console, typed, Both("--console <FILE>", "--typed <TEXT>")),
             (edits, deps, Both("--edits <FILE>", "--deps <FILE>")),
             (edits, trace, Both("--edits <FILE>", "--trace <FILE>")),
+            (edits, dry_run, Both("--edits <FILE>", "--dry-run")),
             (self.target, deps, Missing("--deps <FILE>")),
             (own[0], disk[0], Both("--files <DIR>", "--disk <DIR>")),
             (own[1], disk[1], Both("--files-b <DIR>", "--disk-b <DIR>")),

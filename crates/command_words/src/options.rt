@@ -101,6 +101,14 @@ const RUN_OPTIONS: &[Choice<'_>] = &[
         "partial",
         "Change the disks whatever the stop, and not only after WarmBoot",
     ),
+    Flag(
+        "dry-run",
+        "Change no file, and print what the run would do (not with --edits)",
+    ),
+    Flag(
+        "explain",
+        "Print where the run stopped, and what to do (ignored with --edits)",
+    ),
     LIMIT,
     NumberOr(
         "spacing",

@@ -51,6 +51,10 @@ pub struct Words<'a> {
     pub disk: [Option<&'a str>; 4],
     /// Whether the disks are changed whatever the stop, and not only if the run stops by `WarmBoot`.
     pub partial: bool,
+    /// Whether the run changes no file, and reports what it would do.
+    pub dry_run: bool,
+    /// Whether the run says where it stopped, and what to do.
+    pub explain: bool,
     /// The path of the edit lines, or `None` to run the session once.
     pub edits: Option<&'a str>,
     /// The path of the file that gets a rule for make, if one is to be written.
@@ -208,6 +212,8 @@ fn words_of<'a>(matches: &ArgMatches<'a>) -> Option<Words<'a>>
         out: texts(matches, "out", "out-b", "out-c", "out-d"),
         disk: session.disk,
         partial: flag(matches, "partial"),
+        dry_run: flag(matches, "dry-run"),
+        explain: flag(matches, "explain"),
         edits: matches.get_str("edits"),
         deps: matches.get_str("deps"),
         target: matches.get_str("target"),

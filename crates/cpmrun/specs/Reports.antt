@@ -77,9 +77,9 @@ IsRuleAt w listings written s (Some path) (Some (p, text)) = (p ≡ stream_path 
 abbrev pub IsRuleOf : Words → List (Option Listing) → List Path → Session → Option Told → Type 0
 IsRuleOf w listings written s rule = IsRuleAt w listings written s w.deps rule
 
--- The path to which the trace is written, if the words ask for one.
+-- The path to which the trace is written, if the words ask for one. A dry run writes none.
 abbrev pub trace_path : Words → Option Path
-trace_path w = option_map (λ path. stream_path path.now) w.trace
+trace_path w = if w.dry_run then None else option_map (λ path. stream_path path.now) w.trace
 
 abbrev pub is_in_plan : Placing → Bool
 is_in_plan InPlan = true
@@ -111,6 +111,9 @@ is_changed = codes "the run changes this file"
 abbrev pub may_change : List ℕ
 may_change = codes "the run may change a file of this name"
 
+abbrev pub is_on_disk : List ℕ
+is_on_disk = codes "it would be a file of a disk"
+
 abbrev pub is_other : List ℕ
 is_other = codes "it is the file of '--trace <FILE>'"
 
@@ -119,12 +122,13 @@ abbrev pub IsTaken : Option (Bor Path) → List ℕ → List ℕ → List ℕ �
 IsTaken report option reason message = (path : Bor Path) × (report ≡ Some path) × (message ≡ value_text path.now option reason)
 
 -- The message of a usage error that is seen in the files: two options have the same folder, or a report is to be written to a file that the run
--- reads or changes, or both reports to one file. A trace is written while the run goes on, so its name must be none that the run could change.
+-- reads or changes, or both reports to one file. A trace is written while the run goes on, so its name must be none that the run could change;
+-- and a rule must not be on a disk under the name of a file.
 abbrev pub IsFileUsage : Words → List ℕ → Type 0
 IsFileUsage w message =
     ((clash : Clash) × AreGiven w clash × (message ≡ usage_text Cpmrun (clash_reason clash)))
     ⊎ IsTaken w.deps (codes "--deps <FILE>") is_read message ⊎ IsTaken w.trace (codes "--trace <FILE>") is_read message
-    ⊎ IsTaken w.deps (codes "--deps <FILE>") is_other message
+    ⊎ IsTaken w.deps (codes "--deps <FILE>") is_other message ⊎ IsTaken w.deps (codes "--deps <FILE>") is_on_disk message
     ⊎ IsTaken w.trace (codes "--trace <FILE>") may_change message
     ⊎ IsTaken w.deps (codes "--deps <FILE>") is_changed message ⊎ IsTaken w.trace (codes "--trace <FILE>") is_changed message
 

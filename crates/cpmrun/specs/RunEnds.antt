@@ -7,6 +7,7 @@ use Rattle.command_words.specs.declared.words.Words.{Words}
 use Rattle.faults.specs.Faults.{of_failure}
 use Rattle.faults.specs.declared.fault.Fault.{Fault}
 use Rattle.faults.specs.declared.fault.Fault.TheVariants.{CannotWrite, DiskUnchanged, Folders, OutOfMemory}
+use Rattle.one_run.specs.Explanations.{explanation}
 use Rattle.folders.specs.ChangedBytes.{written_bytes}
 use Rattle.dependencies.specs.Bios.{bios_look}
 use Rattle.disks.specs.Given.{has_disks}
@@ -25,7 +26,8 @@ use Rattle.machine.specs.Cause.TheVariants.{WarmBoot}
 use Rattle.machine.specs.Inputs.{Session}
 use Rattle.machine.specs.PlainState.{plain_run}
 use Rattle.make_rules.specs.RefusedPaths.{FailsPaths}
-use Rattle.one_run.specs.ChangedList.{Changed, changed_list, first_unplaced, planned}
+use Rattle.one_run.specs.ChangedList.{Changed, changed_list, first_unplaced, is_on_disk, planned}
+use Rattle.one_run.specs.DryRun.{IsForetellFault, foretold, leave_lines, would_lines}
 use Rattle.one_run.specs.Left.{left_on}
 use Rattle.one_run.specs.Room.{HasRoom, IsRoomFault}
 use Rattle.one_run.specs.StopLines.{stop_lines}
@@ -43,7 +45,7 @@ use Rattle.plan.specs.declared.deed.Deed.{Deed}
 use Rattle.requests.specs.Acts.{Act, and_then, checked, exits, report, with_some}
 use Rattle.requests.specs.Programs.{Task}
 use Rattle.requests.specs.Requests.{WritesNothing}
-use Rattle.streams.specs.Streams.{Output, WritesPart, WritesWhole}
+use Rattle.streams.specs.Streams.{Output, WritesOrFails, WritesPart, WritesWhole}
 use Rattle.cpmrun.specs.declared.disks_after.Unsynced.{Unsynced}
 use Rattle.cpmrun.specs.Reports.{AllowsRule, IsEarly, IsElsewhere, IsPlanFault, IsRuleOf, Told, put_paths, report_part, rule_path, trace_path, written_folders}
 
@@ -67,7 +69,7 @@ changes_disks w cause looked = w.partial || (is_warm cause && not (is_some looke
 abbrev pub disks_after : Words → Cause → Option ℕ → Disks
 disks_after w cause looked = if has_disks w then (if changes_disks w cause looked then became.Changed else became.Unchanged) else became.Absent
 
--- The exit status after a run: 1 if a folder was not synced, and that of a stop in the system area if it looked for the BIOS.
+-- The exit status after a run: 1 if a folder was not synced, and 6, as after a stop in the system area, if it looked for the BIOS.
 abbrev pub exit_status : Cause → Option ℕ → List (Option (Bor Path)) → ℕ
 exit_status cause looked unsynced = if list_any is_some unsynced then 1 else if is_some looked then 6 else stop_status cause
 
@@ -232,6 +234,44 @@ change w listings s disks cs = record {
   Leaves = λ before after fault. BreaksChanges w listings s disks cs before.files after.files.bytes fault × (after.out ≡ before.out);
 }
 
+-- ---- a dry run
+
+-- What a dry run reports: all that would be done, in order, and the disks that would be left unchanged.
+abbrev pub whole_plan : Disks → List Changed → List Wanted
+whole_plan disks cs = puts disks cs ++ on_disks disks (planned Gone cs)
+
+abbrev pub dry_lines : Words → FileBytes → Disks → List Changed → List ℕ
+dry_lines w stored disks cs = would_lines (foretold stored (whole_plan disks cs)) ++ leave_lines disks cs w.disk
+
+-- Why it reports nothing.
+abbrev pub IsDryFault : Fault → Type 0
+IsDryFault (Folders f) = IsForetellFault f
+IsDryFault OutOfMemory = Unit {0}
+IsDryFault fault = ⊥
+
+-- It changes no file.
+abbrev pub pretend : Words → Disks → List Changed → Act
+pretend w disks cs = record {
+  Does = λ before after. (after.files ≡ before.files) × (after.out ≡ before.out)
+      × IfSome before.files.bytes (λ stored. WritesOrFails before.err after.err (dry_lines w stored disks cs));
+  Leaves = λ before after fault. IsDryFault fault × WritesNothing before after;
+}
+
+-- What is done with the changed files.
+abbrev pub one_of : Bool → Act → Act → Act
+one_of true first second = first
+one_of false first second = second
+
+abbrev pub settle : Words → List (Option Listing) → Session → Disks → List Changed → Act
+settle w listings s disks cs = one_of w.dry_run (pretend w disks cs) (change w listings s disks cs)
+
+-- A dry run leaves no folder unsynced.
+abbrev pub all_synced : Unsynced
+all_synced = record { out = false ∷ false ∷ false ∷ false ∷ []; disks = false ∷ false ∷ false ∷ false ∷ [] }
+
+abbrev pub MayLeaveUnsynced : Words → Unsynced → Type 0
+MayLeaveUnsynced w unsynced = w.dry_run ≡ true → unsynced ≡ all_synced
+
 -- ---- the run
 
 -- The folders that were not synced: those for changed files, and the disks.
@@ -244,20 +284,34 @@ unsynced_in folders failed = map (λ drive. if_unsynced (get_or folders drive No
 abbrev pub unsynced_folders : Words → Unsynced → List (Option (Bor Path))
 unsynced_folders w unsynced = unsynced_in w.out unsynced.out ++ unsynced_in w.disk unsynced.disks
 
+-- Whether a changed file is on a disk that stays unchanged.
+abbrev pub keeps_disk : Disks → List Changed → Bool
+keeps_disk became.Unchanged cs = list_any is_on_disk cs
+keeps_disk disks cs = false
+
+-- What explains the stop of a run, if the words ask for that.
+abbrev pub explained : Words → Session → Disks → List Changed → List ℕ
+explained w s disks cs = if w.explain then explanation (keeps_disk disks cs) (plain_run s) else []
+
 -- What is reported about the end of a run, which then exits with this status.
-abbrev pub reporting : Session → Disks → Option ℕ → List Changed → List Path → ℕ → List (Option (Bor Path)) → Act
-reporting s disks looked cs left status unsynced =
-    exits status (exit_status (plain_run s).cause looked unsynced) (report (stop_lines (plain_run s).cause disks looked cs left unsynced))
+abbrev pub reporting : Words → Session → Disks → List Changed → List Path → ℕ → List (Option (Bor Path)) → Act
+reporting w s disks cs left status unsynced =
+    exits status (exit_status (plain_run s).cause (looked_for w s) unsynced)
+    (and_then (report (stop_lines (plain_run s).cause disks (looked_for w s) cs left unsynced)) (report (explained w s disks cs)))
 
 -- What the disks need is checked, the files are changed, and the end is reported.
 abbrev pub finish : Words → Session → List (Option Listing) → Places → ℕ → Disks → List Changed → Act
-finish w s listings p status disks cs = and_then (check disks p cs) (and_then (change w listings s disks cs)
-    (with_some (λ (unsynced : Unsynced). Unit {0}) (λ unsynced. reporting s disks (looked_for w s) cs (left_on p.disks) status (unsynced_folders w unsynced))))
+finish w s listings p status disks cs = and_then (check disks p cs) (and_then (settle w listings s disks cs)
+    (with_some (MayLeaveUnsynced w) (λ unsynced. reporting w s disks cs (left_on p.disks) status (unsynced_folders w unsynced))))
 
--- A run: its console text and its trace, then its files, on the disks only if it changes them, and then its stop.
+-- What is done after the session has ended: its files are changed, on the disks only if it changes them, and then its stop is reported.
+abbrev pub ending : Words → List (Option Listing) → Session → ℕ → Act
+ending w listings s status = with_some (ArePlaces w listings)
+    (λ p. finish w s listings p status (disks_after w (plain_run s).cause (looked_for w s)) (changed_by_run p s))
+
+-- A run: its console text and its trace, and then that.
 abbrev pub run : Words → List (Option Listing) → Session → ℕ → Act
-run w listings s status = checked (IsEarly w) (and_then (stream w s) (with_some (ArePlaces w listings)
-    (λ p. finish w s listings p status (disks_after w (plain_run s).cause (looked_for w s)) (changed_by_run p s))))
+run w listings s status = checked (IsEarly w) (and_then (stream w s) (ending w listings s status))
 
 -- A rule for make cannot have a path of the words.
 abbrev pub RefusesRule : Words → Fault → Type 0

@@ -140,7 +140,7 @@ pub fn metered_command<S: FileSystem, O: Writer, E: Writer>(
 {
     match run(system, words, meter, out, err) {
         Ok(status) => status,
-        Err(fault) => report_fault(system.alloc(), Tool::Cpmrun, fault, err),
+        Err(fault) => report_fault(Tool::Cpmrun, fault, err),
     }
 }
 

@@ -122,6 +122,14 @@ pub struct Unsynced {
     pub disks: [bool; 4],
 }
 
+impl Unsynced {
+    /// No folder.
+    pub const NONE: Unsynced = Unsynced {
+        out: [false; 4],
+        disks: [false; 4],
+    };
+}
+
 // Returns this folder if it was not synced.
 fn if_unsynced(folder: Option<&str>, unsynced: bool) -> Option<&str>
     ensures { result ≡ run_ends.if_unsynced folder.entry unsynced }

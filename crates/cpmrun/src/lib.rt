@@ -2,7 +2,9 @@
 //!
 //! - `request`: the request in the words of the command line
 //! - `word_run`, `reports`: one run of the session of the words; what it reports into files
+//! - `dry_run`: a run that changes no file
 //! - `disks_after`: what disks need before they are changed, what becomes of them, and which folders are synced
+//! - `explaining`: the explanation of a stop
 //! - `command_line`: the command
 //!
 //! `command` takes a `FileSystem` instead of the runtime, so that its contract can name the files; `main` passes `SystemFiles`. What
@@ -11,6 +13,8 @@
 
 mod command_line;
 mod disks_after;
+mod dry_run;
+mod explaining;
 mod reports;
 mod request;
 mod word_run;

@@ -15,7 +15,7 @@ ghost use Rattle.faults.specs.Faults.{file_paths};
 ghost use Rattle.cpmrun.specs.Reports as reports;
 
 use command_words::Words;
-use disks::{is_one_file, leads_to_written, may_be_written, report_taken};
+use disks::{Within, is_one_file, leads_to_written, may_be_written, report_taken};
 use folders::{
     Failure, Fault as FolderFault, FileSystem, Id, Kind, Listing, Written, write_failure,
 };
@@ -255,14 +255,31 @@ fn check_trace<'a, S: FileSystem>(system: &mut S, words: &Words<'_>) -> Result<(
         return Ok(());
     };
     let at = stream_path(path);
-    if may_be_written(system, words, at)? || leads_to_written(system, words, at)? {
+    if may_be_written(system, words, Within::Written, at)? || leads_to_written(system, words, at)? {
         let reason = "the run may change a file of this name";
         return Err(taken_fault(system.alloc(), path, "--trace <FILE>", reason));
     }
     Ok(())
 }
 
-/// Checks that the files of the reports are different, and none that the run reads. The one of a trace is none that it may change, either.
+// Checks that the path of the rule is none of a file of a disk, which the next run would read.
+fn check_rule_path<'a, S: FileSystem>(system: &mut S, words: &Words<'_>) -> Result<(), Fault<'a>>
+    ensures fault { IfErr result
+        (reports.IsTakenFault words.now.deps (codes "--deps <FILE>") reports.is_on_disk) }
+    ensures unchanged { KeepsFiles file_paths result (S.files system.old) (S.files system.new) }
+{
+    let Some(path) = words.deps else {
+        return Ok(());
+    };
+    if may_be_written(system, words, Within::Disks, stream_path(path))? {
+        let reason = "it would be a file of a disk";
+        return Err(taken_fault(system.alloc(), path, "--deps <FILE>", reason));
+    }
+    Ok(())
+}
+
+/// Checks that the files of the reports are different, and none that the run reads. The one of a rule is none of a disk, and the one of a trace
+/// none that the run may change.
 pub fn check_reports<'a, S: FileSystem>(
     system: &mut S,
     words: &Words<'_>,
@@ -273,6 +290,7 @@ pub fn check_reports<'a, S: FileSystem>(
 {
     check_unread(system, words, listings, "--deps <FILE>", words.deps)?;
     check_unread(system, words, listings, "--trace <FILE>", words.trace)?;
+    check_rule_path(system, words)?;
     check_trace(system, words)?;
     let (Some(deps), Some(trace)) = (words.deps, words.trace) else {
         return Ok(());

@@ -25,6 +25,8 @@ ghost use Rattle.cpmrun.specs.RunEnds as run_ends;
 use crate::disks_after::{
     Unsynced, check_disks, disks_after, exit_status, looked_for, sync_drives, unsynced_folders,
 };
+use crate::dry_run::pretend;
+use crate::explaining::explain;
 use crate::reports::{
     Placing, Report, check_changes, check_reports, plan_report, push_paths, rule_report,
     stream_path, write_report,
@@ -43,6 +45,13 @@ use plan::{Deed, Durable, Plan, carry_out, carry_out_each};
 use requests::{Fault, Tool, clash_fault};
 use std::alloc::{AllocError, Global};
 use streams::{Nowhere, Writer};
+
+// What a run changes: what becomes of the disks, and the changed files.
+#[derive(Clone, Copy)]
+struct Changes<'r, 'e> {
+    disks: Disks,
+    entries: &'r [Entry<'e>],
+}
 
 // Returns what a run notes: what it asks for, if a rule for make is written, or if it has disks.
 fn noting_of(words: &Words<'_>) -> Noting
@@ -76,11 +85,14 @@ fn fault_of<'a>(words: &Words<'_>, fault: RunFault) -> Fault<'a>
     }
 }
 
-// Returns the path to which the trace is written, if the words ask for one.
+// Returns the path to which the trace is written, if the words ask for one. A dry run writes none.
 fn trace_path<'a>(words: &Words<'a>) -> Option<&'a str>
     ensures { option_map (λ path. path.now) result ≡ reports.trace_path words.now }
 {
-    Some(stream_path(words.trace?))
+    match words.trace {
+        Some(path) if !words.dry_run => Some(stream_path(path)),
+        _ => None,
+    }
 }
 
 // Runs a session to its end, and writes its console text.
@@ -290,11 +302,97 @@ fn change<'a, S: FileSystem>(
     Ok(unsynced)
 }
 
-// Runs a session that was loaded once, and reports its stop. Returns the exit status for the stop.
-fn run_loaded<'r, 'a, S: FileSystem, O: Writer, E: Writer>(
+// Returns what is not synced after the files are changed as the run asks. A dry run only reports what would be done.
+fn settle<'a, S: FileSystem, E: Writer>(
+    system: &mut S,
+    words: &Words<'_>,
+    listings: &[Option<Listing>; 4],
+    changes: Changes<'_, '_>,
+    run: &WholeRun<'_>,
+    err: &mut E,
+) -> Result<Unsynced, Fault<'a>>
+    requires carried { is_some words.now.deps ≡ true → list_all is_carried
+        (reports.put_paths (run_ends.puts changes.disks (map changed_by changes.entries.now))) ≡ true }
+    requires words { AllowsRule words.now }
+    requires run { is_some words.now.deps ≡ true
+        → AreDependencies run.now.session.now run.now.looks run.now.steps run.now.cause }
+    ensures done { OnOk result ((out : Output) → (run_ends.settle words.now listings.now run.now.session.now
+        changes.entry.disks (map changed_by changes.entry.entries.now)).Does
+        (world (S.files system.old) out (E.output err.old))
+        (world (S.files system.new) out (E.output err.new))) }
+    ensures unsynced { IfOk result (run_ends.MayLeaveUnsynced words.now) }
+    ensures fault { IfErr result (λ fault. (out old new : Output) → (run_ends.settle words.now listings.now
+        run.now.session.now changes.entry.disks (map changed_by changes.entry.entries.now)).Leaves
+        (world (S.files system.old) out old) (world (S.files system.new) out new) fault) }
+    ensures unreported { OnErr result (E.output err.new ≡ E.output err.old) }
+    ensures failed { ReportsPaths file_paths result (S.files system.old) (S.files system.new) }
+{
+    let Changes { disks, entries } = changes;
+    if words.dry_run {
+        pretend(system, words, disks, entries, err)?;
+        return Ok(Unsynced::NONE);
+    }
+    change(system, words, listings, disks, entries, run)
+}
+
+// Changes the files as a run of the words asks that has ended, and reports its stop. Returns the exit status.
+fn finish<'r, 'a, S: FileSystem, E: Writer>(
     system: &mut S,
     words: &'r Words<'r>,
-    loaded: &'r Loaded,
+    listings: &'r [Option<Listing>; 4],
+    run: &'r WholeRun<'r>,
+    err: &mut E,
+) -> Result<u8, Fault<'a>>
+    requires words { AllowsRule words.now }
+    requires run { run_ends.notes_looks words.now ≡ true
+        → AreDependencies run.now.session.now run.now.looks run.now.steps run.now.cause }
+    ensures done { IfOk result (λ status. (out : Output) →
+        (run_ends.ending words.now listings.now run.now.session.now status).Does
+        (world (S.files system.old) out (E.output err.old))
+        (world (S.files system.new) out (E.output err.new))) }
+    ensures fault { IfErr result (λ fault. (out old new : Output) →
+        (run_ends.ending words.now listings.now run.now.session.now 0).Leaves
+        (world (S.files system.old) out old) (world (S.files system.new) out new) fault) }
+    ensures unreported { OnErr result (E.output err.new ≡ E.output err.old) }
+    ensures failed { ReportsPaths file_paths result (S.files system.old) (S.files system.new) }
+{
+    let (cause, looked) = (run.cause(), looked_for(words, run));
+    let disks = disks_after(words, cause, looked);
+    let places = Places {
+        out: words.out,
+        disks: DriveFolder::with_names(&words.disk, listings),
+    };
+    let alloc = system.alloc();
+    let entries = changed_entries(alloc, &places, run.session.files(), run.journal())?;
+    let entries = entries.as_slice();
+    let left = left_paths(alloc, &places.disks)?;
+    check_disks(system, disks, &places.disks, entries)?;
+    let unsynced = settle(
+        system,
+        words,
+        listings,
+        Changes { disks, entries },
+        run,
+        err,
+    )?;
+    let unsynced = unsynced_folders(words, unsynced);
+    let report = StopReport {
+        cause,
+        disks,
+        looked,
+        left: left.as_slice(),
+        unsynced,
+    };
+    report_stop(&report, entries, err);
+    explain(words, run, disks, entries, err);
+    Ok(exit_status(cause, looked, &unsynced))
+}
+
+// Runs a session that was loaded once, and reports its stop. Returns the exit status for the stop.
+fn run_loaded<'a, S: FileSystem, O: Writer, E: Writer>(
+    system: &mut S,
+    words: &Words<'_>,
+    loaded: &Loaded,
     out: &mut O,
     err: &mut E,
 ) -> Result<u8, Fault<'a>>
@@ -312,34 +410,7 @@ fn run_loaded<'r, 'a, S: FileSystem, O: Writer, E: Writer>(
 {
     check_reports(system, words, &loaded.listings)?;
     let run = run_streams(system, words, &loaded.session, out, err)?;
-    let (cause, looked) = (run.cause(), looked_for(words, &run));
-    let disks = disks_after(words, cause, looked);
-    let places = Places {
-        out: words.out,
-        disks: DriveFolder::with_names(&words.disk, &loaded.listings),
-    };
-    let alloc = system.alloc();
-    let entries = changed_entries(alloc, &places, run.session.files(), run.journal())?;
-    let left = left_paths(alloc, &places.disks)?;
-    check_disks(system, disks, &places.disks, entries.as_slice())?;
-    let unsynced = change(
-        system,
-        words,
-        &loaded.listings,
-        disks,
-        entries.as_slice(),
-        &run,
-    )?;
-    let unsynced = unsynced_folders(words, unsynced);
-    let report = StopReport {
-        cause,
-        disks,
-        looked,
-        left: left.as_slice(),
-        unsynced,
-    };
-    report_stop(&report, entries.as_slice(), err);
-    Ok(exit_status(cause, looked, &unsynced))
+    finish(system, words, &loaded.listings, &run, err)
 }
 
 // Checks that no two folders are the same of which one is written.

@@ -6,6 +6,8 @@ use Rattle.command_words.specs.Clashes.{disk_options, files_options, out_options
 use Rattle.command_words.specs.declared.clashes.Clash.{Clash}
 use Rattle.command_words.specs.declared.clashes.Clash.TheVariants.{SameFolder}
 use Rattle.command_words.specs.declared.words.Words.{Words}
+use Rattle.disks.specs.declared.reports.Within.{Within}
+use Rattle.disks.specs.declared.reports.Within.TheVariants.{Disks, Written}
 use Rattle.folders.specs.Faults.{IsReadFault}
 use Rattle.folders.specs.FileSystem.{Path}
 use Rattle.folders.specs.FolderNames.{key_in}
@@ -65,13 +67,18 @@ pub record IsNameOf (path name : Path) : Type 0 where
 abbrev pub HaveOneName : Path → Path → Type 0
 HaveOneName one other = (name : Path) × IsNameOf one name × IsNameOf other name
 
--- The words give a disk or a folder for changed files.
-abbrev pub HasPlaces : Words → Type 0
-HasPlaces w = (option : List ℕ) × IsGiven w 8 option
+-- How many options give such folders: disks come first, then folders for changed files.
+abbrev pub option_count : Within → ℕ
+option_count Disks = 4
+option_count Written = 8
+
+-- The words give such a folder.
+abbrev pub HasPlaces : Words → Within → Type 0
+HasPlaces w within = (option : List ℕ) × IsGiven w (option_count within) option
 
 -- A run of the words may write a file at this path: the words give a place for files, and the name of the path is valid on any drive.
-pub record MayBeWritten (w : Words) (path : Path) : Type 0 where
-  pub places : HasPlaces w
+pub record MayBeWritten (w : Words) (within : Within) (path : Path) : Type 0 where
+  pub places : HasPlaces w within
   pub name : Path
   pub is : IsNameOf path name
   pub valid : (drive : ℕ) → is_some (key_in drive name) ≡ true

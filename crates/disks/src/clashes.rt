@@ -11,7 +11,10 @@ use crate::ids::id_at;
 use command_words::{Clash, Words};
 use folders::{Failure, FileSystem, Id};
 
-/// How many of the folders are written to. They come first.
+/// How many of the folders are disks. They come first.
+pub const DISKS: usize = 4;
+
+/// How many of the folders are written to. They come before the others.
 pub const WRITTEN: usize = 8;
 
 /// A folder that was found: which it is, and its option.

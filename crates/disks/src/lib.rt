@@ -12,4 +12,4 @@ mod reports;
 
 pub use clashes::{has_disks, same_folders};
 pub use locks::lock_disks;
-pub use reports::{is_one_file, leads_to_written, may_be_written, report_taken};
+pub use reports::{Within, is_one_file, leads_to_written, may_be_written, report_taken};

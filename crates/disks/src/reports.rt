@@ -1,15 +1,39 @@
 // Whether a report would be written over a file of a run.
 
-ghost use Rattle.std.specs.Prelude.{◌≡◌, IfErr, IfOk, IfSome, true};
+ghost use Rattle.std.specs.Prelude.{◌≡◌, ◌≤◌, IfErr, IfOk, IfSome, true};
 ghost use Rattle.folders.specs.Failures.{KeepsFiles};
 ghost use Rattle.folders.specs.Faults.{FailsBy, failure_paths};
 ghost use Rattle.disks.specs.Given.{HasPlaces, HaveOneName, IsAnyReadFault, IsNameOf, MayBeWritten};
 
-use crate::clashes::{WRITTEN, folders_of};
+use crate::clashes::{DISKS, WRITTEN, folders_of};
 use crate::ids::{are_same, id_at};
 use command_words::Words;
 use filenames::{Drive, Key};
 use folders::{Failure, FileSystem, Id, Listing, name_in_folder, path_in, read_failure};
+
+/// The folders in which a file is.
+#[derive(Clone, Copy, Debug, PartialEq, Eq)]
+pub enum Within {
+    /// The disks.
+    Disks,
+    /// The disks, and the folders for changed files.
+    Written,
+}
+
+impl Within {
+    ghost use Rattle.disks.specs.Given.{option_count};
+
+    // Returns how many options give such folders. They are the first ones.
+    fn count(self) -> usize
+        ensures count { result ≡ option_count self }
+        ensures few { result ≤ WRITTEN }
+    {
+        match self {
+            Within::Disks => DISKS,
+            Within::Written => WRITTEN,
+        }
+    }
+}
 
 // Returns the folder of a path and the name in it, if there is a name after the last `/`.
 fn folder_and_name(path: &str) -> Option<(&str, &str)>
@@ -124,13 +148,14 @@ pub fn report_taken<S: FileSystem>(
     is_host_file(system, words, listings, id)
 }
 
-// Returns whether a folder is a disk or a folder for changed files. A folder that is not there is the same as no other.
+// Returns whether a folder is one of these. A folder that is not there is the same as no other.
 fn is_written_to<S: FileSystem>(
     system: &mut S,
     words: &Words<'_>,
+    within: Within,
     folder: &str,
 ) -> Result<bool, Failure>
-    ensures places { IfOk result (λ is. is ≡ true → HasPlaces words.now) }
+    ensures places { IfOk result (λ is. is ≡ true → HasPlaces words.now within) }
     ensures fault { IfErr result (FailsBy IsAnyReadFault) }
     ensures unchanged { KeepsFiles failure_paths result (S.files system.old) (S.files system.new) }
 {
@@ -138,7 +163,7 @@ fn is_written_to<S: FileSystem>(
         return Ok(false);
     };
     let folders = folders_of(words);
-    for at in 0..WRITTEN {
+    for at in 0..within.count() {
         let (_, written) = folders[at];
         if let Some(written) = written
             && id_at(system, written)? == Some(id)
@@ -199,8 +224,8 @@ pub fn leads_to_written<S: FileSystem>(
     Ok(false)
 }
 
-/// Returns whether a run may write a file at this path: the path is on a disk or in a folder for changed files, and its name is valid for a
-/// file of CP/M, in upper or lower case. Only the path counts: a link at the path is not followed.
+/// Returns whether a run may write a file at this path: the path is in one of these folders, and its name is valid for a file of CP/M, in upper
+/// or lower case. Only the path counts: a link at the path is not followed.
 ///
 /// # Errors
 ///
@@ -208,15 +233,16 @@ pub fn leads_to_written<S: FileSystem>(
 pub fn may_be_written<S: FileSystem>(
     system: &mut S,
     words: &Words<'_>,
+    within: Within,
     path: &str,
 ) -> Result<bool, Failure>
-    ensures allowed { IfOk result (λ may. may ≡ true → MayBeWritten words.now path.now) }
+    ensures allowed { IfOk result (λ may. may ≡ true → MayBeWritten words.now within path.now) }
     ensures fault { IfErr result (FailsBy IsAnyReadFault) }
     ensures unchanged { KeepsFiles failure_paths result (S.files system.old) (S.files system.new) }
 {
     match folder_and_name(path) {
         Some((folder, name)) if name_in_folder(Drive::A, name).is_some() => {
-            is_written_to(system, words, folder)
+            is_written_to(system, words, within, folder)
         }
         _ => Ok(false),
     }

@@ -1,6 +1,9 @@
 pub mod ChangedList
+pub mod DryRun
+pub mod Explanations
 pub mod Left
 pub mod Room
 pub mod RunTexts
 pub mod StopLines
+pub mod SystemNames
 pub use Rattle.tracing.specs.Trace

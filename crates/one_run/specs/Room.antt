@@ -14,7 +14,7 @@ use Rattle.one_run.specs.ChangedList.{Changed, is_turn}
 use Rattle.one_run.specs.declared.planning.Turn.{Turn}
 use Rattle.one_run.specs.declared.planning.Turn.TheVariants.{New, Gone}
 
--- Whether a name in the folder of a drive is that of a file of CP/M.
+-- Whether a file with a name of CP/M is at a name in the folder of a drive.
 abbrev pub is_file : FileBytes → ℕ → Path → Path → Bool
 is_file stored drive folder name = is_some (key_in drive name) && contains_key stored (path_text folder name)
 
@@ -38,7 +38,7 @@ is_at path (Some other) = bytes_eq other path
 abbrev pub is_elsewhere : Key → Path → Changed → Bool
 is_elsewhere key path c = c.there && bytes_eq c.key key && not (is_at path c.path)
 
--- Whether a name in the folder is that of another file that would have the name of a changed one.
+-- Whether another file, at this name in the folder, would have the name of a changed one.
 abbrev pub is_taken_by : FileBytes → Path → List Changed → Option Key → Bool
 is_taken_by stored path cs None = false
 is_taken_by stored path cs (Some key) = contains_key stored path && list_any (is_elsewhere key path) cs

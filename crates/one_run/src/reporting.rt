@@ -143,8 +143,8 @@ fn push_looked<X: Text>(text: &mut X, looked: Option<u16>)
     }
 }
 
-// Appends a line with a path.
-fn push_path<X: Text>(text: &mut X, before: &[u8], path: &str)
+/// Appends a line with a path.
+pub(crate) fn push_path<X: Text>(text: &mut X, before: &[u8], path: &str)
     ensures { X.pushed text.new ≡ more (X.pushed text.old) (lines.path_line before.now path.now) }
 {
     text.push(before);

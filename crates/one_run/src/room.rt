@@ -41,7 +41,7 @@ fn count_in_turn(drive: Drive, turn: Turn, entries: &[Entry<'_>]) -> usize
     count_entries(drive, turn, entries)
 }
 
-// Returns whether a name in the folder of a drive is that of a file.
+// Returns whether a file with a name of CP/M is at a name in the folder of a drive.
 fn is_file<S: FileSystem>(
     system: &mut S,
     drive: Drive,
@@ -138,7 +138,7 @@ fn is_any_elsewhere(name: &Name, path: &str, entries: &[Entry<'_>]) -> bool
     has_entry_elsewhere(name, path, entries)
 }
 
-// Checks that a name in the folder of a drive is not that of another file that would have the name of a changed one.
+// Checks that no other file, at this name in the folder of a drive, would have the name of a changed one.
 fn check_name<S: FileSystem>(
     system: &mut S,
     drive: Drive,

@@ -20,6 +20,8 @@ pub struct Fields<'a> {
     /// For the drives A to D.
     pub disk: &'a [Option<&'a str>],
     pub partial: bool,
+    pub dry_run: bool,
+    pub explain: bool,
     pub edits: Option<&'a str>,
     pub deps: Option<&'a str>,
     pub target: Option<&'a str>,
@@ -53,6 +55,8 @@ pub const PROGRAM: Fields<'_> = Fields {
     out: &[None; 4],
     disk: &[None; 4],
     partial: false,
+    dry_run: false,
+    explain: false,
     edits: None,
     deps: None,
     target: None,
@@ -91,6 +95,8 @@ fn has_same_files(words: &Words<'_>, wanted: &Fields<'_>) -> bool {
         && are_same(&words.out, wanted.out)
         && are_same(&words.disk, wanted.disk)
         && words.partial == wanted.partial
+        && words.dry_run == wanted.dry_run
+        && words.explain == wanted.explain
         && words.console == wanted.console
         && words.typed == wanted.typed
         && words.edits == wanted.edits

@@ -67,6 +67,10 @@ const ROWS: &[Row<'_>] = &[
         read!(disk: &[None, None, None, Some("dd")], partial: true),
     ),
     (
+        &["p.com", "--dry-run", "--explain", "--out-b", "o"],
+        read!(out: &[None, Some("o"), None, None], dry_run: true, explain: true),
+    ),
+    (
         &["--deps", "p.d", "p.com", "--out", "oa", "--target=p out"],
         read!(
             out: &[Some("oa"), None, None, None],

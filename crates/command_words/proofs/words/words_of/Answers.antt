@@ -24,6 +24,8 @@ returns-clause-says c =
       target = c.get_str-3.ensures ∙ first_value-rows f (codes "target");
       trace = c.get_str-4.ensures ∙ first_value-rows f (codes "trace");
       partial = c.flag.ensures;
+      dry_run = c.flag-2.ensures;
+      explain = c.flag-3.ensures;
       spacing = c.in_ok-number.ensures.said;
       slots = c.in_ok-number-2.ensures.said;
     }
