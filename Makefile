@@ -18,7 +18,7 @@ TRACE_PROGRAM = out/cpmtrace
 STAGE = out/stage
 DOC = share/doc/cpmrun
 # An installed page says `cpmrun` for `./cpmrun`.
-PAGE = s,(\.\./)+(cpmrun|cpmdeps|cpmtrace|cpmtools),\2,g; s,\./(cpmrun|cpmdeps|cpmtrace|cpmtools),\1,g; s,tests/programs/,programs/,g; s,\.\./docs/,../,g
+PAGE = s,(\.\./)+(cpmrun|cpmdeps|cpmtrace|vembrusk),\2,g; s,\./(cpmrun|cpmdeps|cpmtrace|vembrusk),\1,g; s,tests/programs/,programs/,g; s,\.\./docs/,../,g
 
 .PHONY: all check stage install uninstall dist bench needs pages clean
 
@@ -33,9 +33,9 @@ stage: all
 	@rm -rf $(STAGE) && mkdir -p $(STAGE)/$(DOC)
 	@install -D $(PROGRAM) $(STAGE)/bin/cpmrun
 	@ln -s cpmrun $(STAGE)/bin/cpmdeps && ln -s cpmrun $(STAGE)/bin/cpmtrace
-	@install -D cpmtools $(STAGE)/bin/cpmtools
-	@mkdir -p $(STAGE)/share/cpmtools && cp -R python/vembrusk $(STAGE)/share/cpmtools
-	@for name in cpmrun cpmdeps cpmtrace cpmtools; do \
+	@install -D vembrusk $(STAGE)/bin/vembrusk
+	@mkdir -p $(STAGE)/share/vembrusk && cp -R python/vembrusk $(STAGE)/share/vembrusk
+	@for name in cpmrun cpmdeps cpmtrace vembrusk; do \
 	    install -D -m 644 docs/$$name.1 $(STAGE)/share/man/man1/$$name.1 && \
 	    install -D -m 644 scripts/completion $(STAGE)/share/bash-completion/completions/$$name || exit; done
 	@cp -R examples tests/programs $(STAGE)/$(DOC) && rm -rf $(STAGE)/$(DOC)/examples/built
@@ -46,11 +46,11 @@ stage: all
 
 install: stage
 	@umask 022 && mkdir -p '$(DESTDIR)$(PREFIX)' && cp -R --remove-destination $(STAGE)/. '$(DESTDIR)$(PREFIX)'
-	@echo 'installed bin/cpmrun, bin/cpmdeps, bin/cpmtrace, bin/cpmtools, their man pages and completion for bash, and $(DOC) in $(DESTDIR)$(PREFIX)'
+	@echo 'installed bin/cpmrun, bin/cpmdeps, bin/cpmtrace, bin/vembrusk, their man pages and completion for bash, and $(DOC) in $(DESTDIR)$(PREFIX)'
 
 uninstall: stage
 	@cd $(STAGE) && find . ! -type d | (cd '$(DESTDIR)$(PREFIX)' && xargs -d '\n' rm -f)
-	@cd $(STAGE) && find $(DOC) share/cpmtools -depth -type d | (cd '$(DESTDIR)$(PREFIX)' && xargs -d '\n' rmdir --ignore-fail-on-non-empty)
+	@cd $(STAGE) && find $(DOC) share/vembrusk -depth -type d | (cd '$(DESTDIR)$(PREFIX)' && xargs -d '\n' rmdir --ignore-fail-on-non-empty)
 
 dist: stage
 	@name=$$($(PROGRAM) --version | tr ' ' -)-linux-x86_64 && tar -C $(STAGE) --transform "s,^\.,$$name," -czf $$name.tar.gz . && echo $$name.tar.gz

@@ -76,13 +76,13 @@ class CommandCase(unittest.TestCase):
 
     def outcome(self, *words: str | Path, commands: bytes = b"") -> tuple[int, bytes, str]:
         """Returns the exit status, the standard output and the standard error of the command, with this as its standard input."""
-        run = subprocess.run([sys.executable, "-B", "-W", "error", TOP / "cpmtools", self.command, *words], input=commands, capture_output=True)
+        run = subprocess.run([sys.executable, "-B", "-W", "error", TOP / "vembrusk", self.command, *words], input=commands, capture_output=True)
         return run.returncode, run.stdout, run.stderr.decode()
 
     def faulty(self, message: str, *words: str | Path) -> None:
         """Expects status 2, and this message on standard error."""
         with self.subTest(message):
-            self.assertEqual(self.outcome(*words), (2, b"", f"cpmtools {self.command}: {message}\n"))
+            self.assertEqual(self.outcome(*words), (2, b"", f"vembrusk {self.command}: {message}\n"))
 
     def refuses_output(self, option: str, path: Path, *words: str | Path) -> None:
         """Expects an error if this option names an input, also by another name, and that nothing is written."""

@@ -1,4 +1,4 @@
-"""Tests of `cpmtools check`, and of the reader and the player of cases. The environment variable CPMRUN names the built program."""
+"""Tests of `vembrusk check`, and of the reader and the player of cases. The environment variable CPMRUN names the built program."""
 
 import unittest
 from pathlib import Path
@@ -50,23 +50,50 @@ class ReaderTest(CommandCase):
                                              folders=(("B", self.room / "disk"),)))
         self.assertEqual((other.session.program, other.session.script, other.number), (b"\x3e\x01\xc9", b"x\n\r", 14))
 
+    def test_blanks_at_the_end_of_a_line_of_text(self) -> None:
+        """They do not count, except as an escape."""
+        [case] = self.read("== one\nHLT\nscript\n|  a  \n| b \\x20\n|   \nfile x\n| c\\x20  \n> run\n")
+        self.assertEqual((case.session.script, case.session.files), (b" a\rb  \r\r", (("x", b"c \r\n"),)))
+        self.assertEqual(parse_outcome("Halt", None, ["| a\\x20"]).text, b"a \r\n")
+
     def test_rows_of_a_table(self) -> None:
         cases = self.read('== {name} of {count}\ntail "{name}"\n> limit {count}\nok\nwith name | count\nx | 1\ny z | 2\n')
         self.assertEqual([(case.title, case.session.tail, case.commands[0].line, case.row is not None) for case in cases],
                          [("x of 1", b"x", "limit 1", True), ("y z of 2", b"y z", "limit 2", True)])
 
     def test_wrong_lines(self) -> None:
-        self.refuse(2, "no bytes: x", "== one\ntail x\n")
+        self.refuse(2, 'put a text in double quotes: "n.txt"', "== one\ntail n.txt\n")
+        self.refuse(2, 'put a text in double quotes: "b c"', "== one\nscript \"a\" 0D b c\n")
+        self.refuse(2, 'no bytes: "abc', '== one\ntail "abc\n')
+        self.refuse(2, "write pairs of capital hexadecimal digits: 0D 1A", "== one\nscript 0d1a\n")
         self.refuse(3, f"cannot read {self.room}/none.com", "\n== one\nprogram none.com\n")
         self.refuse(2, "no name of a file: a/b", "== one\nfile a/b 00\n")
         self.refuse(2, "there is no folder none", "== one\nfiles none\n")
-        self.refuse(1, "no program is before this line: x", "x\n== one\n")
+        self.refuse(1, 'a case begins with "== TITLE": x', "x\n== one\n")
+        self.refuse(2, 'a case begins with "== TITLE": === one', "\n=== one\nHLT\n> run\n")
+        self.refuse(5, 'a case begins with "== TITLE": ==two', "== one\nHLT\n> run\nHalt\n==two\n> run\n")
         self.refuse(3, "no instruction: MVO A", "== one\nNOP\nMVO A\n")
         self.refuse(4, "a row of 1 values for 2 names: x", "== one\n> run\nwith a | b\nx\n")
         self.refuse(2, "no text can be here: | x", "== one\n| x\n")
         self.refuse(3, "no escape: | \\n", "== one\nscript\n| \\n\n")
-        self.refuse(2, "no bytes: x", "== one\n> insert 0 x\n")
+        self.refuse(2, 'put a text in double quotes: "x"', "== one\n> insert 0 x\n")
         self.refuse(4, "a table without a row", "== one\n> run\n\nwith a | b\n")
+
+    def test_wrong_commands(self) -> None:
+        for command in "runn", "Run", "stop 1", "insert0 00", "|":
+            self.refuse(3, f"no command: {command}", f"== one\nHLT\n> {command}\n> run\n")
+        for form, commands in {
+            "run": ["run 5"], "limit N": ["limit", "limit x", "limit 1 2", "limit -1", "limit 12345678901"],
+            "insert AT BYTES": ["insert 0", "insert 00"],
+            "replace AT BYTES": ['replace "x" 0'], "remove AT COUNT": ["remove 0", "remove 0 x"], "poke ADDR BYTES": ["poke 10B 00", "poke 010BH 00"],
+            "file NAME BYTES": ["file X.TXT"], "gone NAME": ["gone", "gone A B"], "drop N": ["drop all"],
+        }.items():
+            for command in commands:
+                self.refuse(3, f'the command is "{form}": {command}', f"== one\nHLT\n> {command}\n> run\n")
+        lines = ["run", "insert 0 00", "insert 4294967295 -", 'replace 1 "a b"', "remove 0 1", "poke 010b (00)*2", 'file b:x.txt "a" 0D',
+                 "gone X", "limit 5", "drop 1"]
+        [case] = self.read("\n> ".join(["== one", *lines]))
+        self.assertEqual([command.line for command in case.commands], lines)
 
     def test_a_case_without_a_command_is_an_error(self) -> None:
         self.refuse(4, "the case has no command", "== one\n> run\nHalt\n== two\nHLT\n\n== three\n> run\nHalt\n")
@@ -196,14 +223,16 @@ class CheckTest(CommandCase):
     def test_faults(self) -> None:
         self.faulty("the following arguments are required: FILE")
         self.faulty("cannot read none", "none")
-        self.faulty("there is no case in these files", self.cases("# none\n"))
+        self.faulty('there is no case in these files; a case begins with "== TITLE"', self.cases("# none\n"))
         self.faulty("argument --jobs: 0 is not in 1 to 1,024", self.cases(GREETED), "--jobs", "0")
         path = self.cases("== one\nHLT\n> run\nHalt after x steps\n")
         self.faulty(f"{path}:4: no first line of a run: Halt after x steps", path)
         path = self.cases("== one\nHLT\n> run\nHalt\nwhat\n")
         self.faulty(f"{path}:5: no line of a result: what", path)
         path = self.cases("== one\nHLT\n> limit 5\nok\n> stop\nok\n")
-        self.faulty(f"{path}:5: cpmrun: line 2 is malformed", path)
+        self.faulty(f"{path}:5: no command: stop", path)
+        path = self.cases("== one\nHLT\n> limit 5\nok\n> gone a/b\nok\n")
+        self.faulty(f"{path}:5: cpmrun: this line is malformed: gone a/b", path)
         path = self.cases("== one\nHLT\ntail \"" + "x" * 127 + "\"\n> run\nHalt\n")
         self.faulty(f"{path}:1: cpmrun: session refused 2", path)
         self.faulty("none: No such file or directory", self.cases(GREETED), "--cpmrun", "none")

@@ -15,11 +15,12 @@ from pathlib import Path
 
 from command_case import EXAMPLES, TOP, CommandCase, built
 from vembrusk import __version__
-from vembrusk.command import SUBCOMMANDS
+from vembrusk.command import PROGRAM_OPTIONS, SUBCOMMANDS
 from vembrusk.files import write_whole
+from vembrusk.session import Session
 from vembrusk.words import Arguments, session_of, typed_bytes
 
-TOOLS = TOP / "cpmtools"
+TOOLS = TOP / "vembrusk"
 GREETING = EXAMPLES / "greeting/greeting.com"
 SORT = EXAMPLES / "sort/sort.com"
 
@@ -69,9 +70,28 @@ class WordsTest(CommandCase):
         self.faulty("argument --limit: 4000000001 is not in 0 to 4,000,000,000", GREETING, "--limit", "4000000001", "--edits", "x")
         self.faulty("unrecognized arguments: c", "a", "b", "c", "--edits", "x")
         self.faulty("unrecognized arguments: --what", GREETING, "--what")
+        self.faulty("unrecognized arguments: --what=x y", GREETING, "a", "--what=x", "y")
         self.faulty("argument --files: expected one argument", GREETING, "--files")
         self.faulty("the following arguments are required: PROGRAM")
         self.faulty("none: No such file or directory", GREETING, "--edits", "none")
+
+
+    def test_options_of_other_commands(self) -> None:
+        for word, owners in {
+            "--file": "shrink and explore", "-o": "shrink, explore and reads", "--out=x": "cpmrun", "--deps": "cpmrun", "--by-step": "cpmdeps",
+            "--steps": "cpmtrace", "--cpmdeps=x": "reads and compare", "--listing": "cover",
+        }.items():
+            self.faulty(f"{word.partition('=')[0]} is an option of {owners}", GREETING, word)
+
+    def test_options_of_the_programs(self) -> None:
+        """The options of each program are those of a session and of checkpoints, and the ones that no subcommand passes on."""
+        parser = Arguments()
+        parser.add_session()
+        parser.add_checkpoints()
+        for name, options in PROGRAM_OPTIONS.items():
+            text = subprocess.run([built(name), "--help"], capture_output=True, text=True, check=True).stdout
+            found = re.findall(r"(?m)^ +(?:-\w, )?(--[a-z-]+)", text)
+            self.assertEqual([option for option in found if not parser.has_option(option) and option != "--version"], options)
 
 
 class StreamsTest(CommandCase):
@@ -93,7 +113,7 @@ class StreamsTest(CommandCase):
                     self.assertEqual(errors, "")
 
     def test_output_that_cannot_be_written(self) -> None:
-        self.assertEqual(self.shell('"$0" cover "$1" > /dev/full'), (2, b"", "cpmtools cover: No space left on device\n"))
+        self.assertEqual(self.shell('"$0" cover "$1" > /dev/full'), (2, b"", "vembrusk cover: No space left on device\n"))
         self.assertEqual(self.shell('set -o pipefail; "$0" explore "$1" --tries 3000 | head -n 1')[::2], (0, ""))
 
     def test_an_interrupt(self) -> None:
@@ -111,18 +131,18 @@ class StreamsTest(CommandCase):
                 time.sleep(1)
                 os.killpg(process.pid, signal.SIGINT)
                 out, err = process.communicate(timeout=30)
-                self.assertEqual((process.returncode, out, err.decode()), (130, b"", f"cpmtools {words[0]}: interrupted\n"))
+                self.assertEqual((process.returncode, out, err.decode()), (130, b"", f"vembrusk {words[0]}: interrupted\n"))
 
     def test_the_command_itself(self) -> None:
-        for words, status, out, err in ("--version", 0, f"cpmtools {__version__}\n", ""), \
-                ("", 2, "", "cpmtools: a subcommand is missing; --help lists them\n"), \
-                ("what", 2, "", "cpmtools: there is no subcommand what; --help lists them\n"):
+        for words, status, out, err in ("--version", 0, f"vembrusk {__version__}\n", ""), \
+                ("", 2, "", "vembrusk: a subcommand is missing; --help lists them\n"), \
+                ("what", 2, "", "vembrusk: there is no subcommand what; --help lists them\n"):
             self.assertEqual(self.shell(f'"$0" {words}'), (status, out.encode(), err))
         self.assertEqual(re.findall(r"(?m)^  (\w+) ", self.shell('"$0" --help')[1].decode()), list(SUBCOMMANDS))
         for name in SUBCOMMANDS:
             status, out, err = self.shell(f'"$0" {name} --help')
             self.assertEqual((status, err), (0, ""))
-            self.assertIn(f"usage: cpmtools {name} ".encode(), out)
+            self.assertIn(f"usage: vembrusk {name} ".encode(), out)
 
 
 class FilesTest(CommandCase):
@@ -163,8 +183,14 @@ class PackageTest(CommandCase):
         shown = subprocess.run([self.room / "venv/bin/python", "-c", where], capture_output=True, text=True, cwd=self.room)
         self.assertIn(f"vembrusk.session.Session'> {self.room}/venv/", shown.stdout)
         env = {**os.environ, "CPMRUN": built("cpmrun")}
-        ran = subprocess.run([self.room / "venv/bin/cpmtools", "check", EXAMPLES / "tools"], capture_output=True, env=env)
+        ran = subprocess.run([self.room / "venv/bin/vembrusk", "check", EXAMPLES / "tools"], capture_output=True, env=env)
         self.assertEqual((ran.returncode, ran.stdout), (0, b"4 passed, 0 failed\n"))
+
+    def test_the_page_of_the_package_has_each_method_of_a_session(self) -> None:
+        page = (TOP / "python/README.md").read_text()
+        for name in vars(Session):
+            if not name.startswith("_"):
+                self.assertIn(f"`{name}(", page)
 
     def test_versions(self) -> None:
         project = tomllib.loads((TOP / "python/pyproject.toml").read_text())["project"]
@@ -174,18 +200,18 @@ class PackageTest(CommandCase):
         for folder in "docs", "scripts", "python":
             shutil.copytree(TOP / folder, self.room / folder)
         subprocess.run([sys.executable, "-B", self.room / "scripts/tool_pages"], check=True)
-        for name in "docs/cpmtools.1", "scripts/completion":
+        for name in "docs/vembrusk.1", "scripts/completion":
             self.assertEqual((self.room / name).read_text(), (TOP / name).read_text(), f"run `make pages`, which writes {name}")
 
     @unittest.skipUnless(shutil.which("groff"), "there is no groff")
     def test_groff_reads_the_man_page(self) -> None:
-        page = subprocess.run(["groff", "-ww", "-man", "-Tascii", "-P-cbu", TOP / "docs/cpmtools.1"], capture_output=True)
+        page = subprocess.run(["groff", "-ww", "-man", "-Tascii", "-P-cbu", TOP / "docs/vembrusk.1"], capture_output=True)
         self.assertEqual((page.returncode, page.stderr), (0, b""))
 
     def completions(self, *words: str) -> list[str]:
         """Returns what bash offers for the last of these words."""
-        script = 'source "$0"; COMP_WORDS=("$@"); COMP_CWORD=$(($# - 1)); _cpmtools 2> /dev/null; echo "${COMPREPLY[*]}"'
-        command = ["bash", "-c", script, TOP / "scripts/completion", "cpmtools", *words]
+        script = 'source "$0"; COMP_WORDS=("$@"); COMP_CWORD=$(($# - 1)); _vembrusk 2> /dev/null; echo "${COMPREPLY[*]}"'
+        command = ["bash", "-c", script, TOP / "scripts/completion", "vembrusk", *words]
         done = subprocess.run(command, capture_output=True, text=True, cwd=self.room)
         return done.stdout.split()
 

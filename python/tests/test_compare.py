@@ -1,4 +1,4 @@
-"""Tests of `cpmtools compare`. The environment variables CPMDEPS and CPMTRACE name the built programs."""
+"""Tests of `vembrusk compare`. The environment variables CPMDEPS and CPMTRACE name the built programs."""
 
 import unittest
 from pathlib import Path
@@ -109,12 +109,21 @@ class CompareTest(CommandCase):
                              "--with-symbols", self.put("other.sym", b"buffer:\tequ $013a\n"))
         self.assertIn('> step 4 call 10 read console buffer buffer "Eve\\r"', lines)
 
+    def test_symbols_of_another_program(self) -> None:
+        words = [TAG, "--typed", "Ada", "--with", str(GREETING)]
+        tag, other = EXAMPLES / "tools/tag.sym", EXAMPLES / "tools/sort.sym"
+        for options, warned in (["--symbols", tag], ()), (["--symbols", other], (TAG,)), (["--with-symbols", other], (GREETING,)), \
+                (["--symbols", other, "--with-symbols", other], (TAG, GREETING)):
+            warnings = "".join(f"warning: {other} may be of another program: {program} refers to 0 of its 41 labels\n" for program in warned)
+            status, _, errors = self.outcome(*words, *options)
+            self.assertEqual((status, errors), (1, warnings))
+
     def test_faults(self) -> None:
         self.faulty("the following arguments are required: --with", GREETING)
         self.faulty("--with: No closing quotation", GREETING, "--with", "'x")
         self.faulty("--typed and --console exclude each other", GREETING, "--with", "--typed x --console y")
         status, out, errors = self.outcome(GREETING, "--with=--what")
-        self.assertEqual((status, out, errors), (2, b"", "cpmtools compare: --with: unrecognized arguments: --what\n"))
+        self.assertEqual((status, out, errors), (2, b"", "vembrusk compare: --with: unrecognized arguments: --what\n"))
         self.faulty("none: No such file or directory", GREETING, "--with", "none")
         self.faulty("the runner ended with status 1: cpmdeps: cannot read none", "none", "--with", "x")
 

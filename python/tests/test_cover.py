@@ -1,5 +1,7 @@
-"""Tests of `cpmtools cover`, and of the counts. The environment variable CPMTRACE names the built program."""
+"""Tests of `vembrusk cover`, and of the counts. The environment variable CPMTRACE names the built program."""
 
+import shutil
+import subprocess
 import tempfile
 import unittest
 from pathlib import Path
@@ -15,6 +17,28 @@ LISTING = EXAMPLES / "tools/nest.lst"
 
 LOOP = bytes.fromhex("0603 05 C20201 C9 00")
 """MVI B,3; 0102: DCR B; JNZ 0102; RET; NOP: the DCR and the JNZ are executed three times."""
+
+HELLO = bytes.fromhex("0E09 110901 CD0500 C9") + b"Hello, world$" + bytes(9)
+"""MVI C,9; LXI D,0109H; CALL 5; RET, and data."""
+
+HELLO_LISTING = b"""\
+\t\tORG 0100
+0100:0E09\tLD C, 09
+0102:110901\tLD DE, 0109
+0105:CD0500\tCALL 0005
+0108:C9\t\tRET
+0109:\t\tlabel text
+0109:48656C6C\tDEFB of 13 bytes
+010D:6F2C2077
+0111:6F726C64
+0115:24
+0116:00000000\tDEFS of 9 bytes with value 00
+011A:00000000
+011E:00
+011F:\t\tEND
+Emiting raw binary from 0100 to 011E
+"""
+"""What `pasmo --w8080 -d` prints of its source."""
 
 LINE = "step {} regs A=00 F=02 B=00 C=00 D=00 E=00 H=00 L=00 SP=FDFE PC={:04X} 00 NOP"
 
@@ -74,6 +98,22 @@ loop.com: 7 of 8 bytes executed (87.5 %), 1 run, 9 steps
         self.assertEqual([found[address] for address in ("0100", "0102", "0111", "0118", "011e", "010b")],
                          [("1", "0"), ("4", "1"), ("1", "11"), ("#####", ""), ("1", "39"), ("4", "8")])
 
+    def test_data_of_several_lines(self) -> None:
+        """A listing of pasmo has four bytes in a line. The lines of data after the first have bytes alone."""
+        listing = self.put("hello.lst", HELLO_LISTING)
+        status, out, errors = self.outcome(self.put("hello.com", HELLO), "--listing", listing)
+        self.assertEqual((status, errors), (0, ""))
+        lines = out.decode().splitlines()
+        self.assertEqual(lines[0], "hello.com: 4 of 4 instructions executed (100 %), 1 run, 7 steps")
+        self.assertEqual([line.split()[0] for line in lines[3:7]], ["1"] * 4)
+        self.assertEqual([line[:22].strip() for line in lines[7:]], [""] * len(lines[7:]))
+
+    @unittest.skipUnless(shutil.which("pasmo"), "there is no pasmo")
+    def test_a_listing_that_pasmo_prints(self) -> None:
+        source = self.put("hello.asm", b"\torg 100h\n\tld c,9\n\tld de,text\n\tcall 5\n\tret\ntext:\tdb 'Hello, world$'\n\tds 9\n\tend\n")
+        done = subprocess.run(["pasmo", "--w8080", "-d", "--bin", source, self.room / "hello.com"], capture_output=True, check=True)
+        self.assertEqual(((self.room / "hello.com").read_bytes(), done.stdout), (HELLO, HELLO_LISTING))
+
     def test_a_run_that_the_limit_stops(self) -> None:
         self.assertEqual(self.outcome(self.put("loop.com", LOOP), "--limit", "3", "--summary"),
                          (0, b"loop.com: 6 of 8 bytes executed (75.0 %), 1 run, 3 steps; 1 stopped by Limit\n", ""))
@@ -84,6 +124,14 @@ loop.com: 7 of 8 bytes executed (87.5 %), 1 run, 9 steps
         lines = info.read_text().splitlines()
         self.assertEqual(lines[:3] + lines[-3:], ["TN:", f"SF:{LISTING}", "DA:7,1", "LF:18", "LH:17", "end_of_record"])
         self.assertIn("DA:20,0", lines)
+
+    def test_symbols_of_another_program(self) -> None:
+        """A file of labels fits if one of the programs refers to a third of them."""
+        tag, nest = EXAMPLES / "tools/tag.sym", EXAMPLES / "tools/nest.lst"
+        cases = self.put("cases.txt", f"== one\nprogram {NEST}\n> run\n== two\nprogram {EXAMPLES}/tools/tag.com\n> run\n".encode())
+        self.assertEqual(self.outcome("--cases", cases, "--summary", "--symbols", tag, "--symbols", nest)[2], "")
+        status, out, errors = self.outcome(NEST, "--summary", "--symbols", tag, "--symbols", nest)
+        self.assertEqual((status, errors), (0, f"warning: {tag} may be of another program: {NEST} refers to 0 of its 4 labels\n"))
 
     def test_cases_of_several_programs(self) -> None:
         status, out, errors = self.outcome("--cases", EXAMPLES / "tools", "--summary")

@@ -1,4 +1,4 @@
-"""Tests of `cpmtools explore`. The environment variable CPMRUN names the built program."""
+"""Tests of `vembrusk explore`. The environment variable CPMRUN names the built program."""
 
 import ast
 import re

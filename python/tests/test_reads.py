@@ -1,4 +1,4 @@
-"""Tests of `cpmtools reads` and `listing.py`. The environment variable CPMDEPS names the built program."""
+"""Tests of `vembrusk reads` and `listing.py`. The environment variable CPMDEPS names the built program."""
 
 import shutil
 import struct

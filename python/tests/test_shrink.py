@@ -1,4 +1,4 @@
-"""Tests of `cpmtools shrink`. The environment variable CPMRUN names the built program."""
+"""Tests of `vembrusk shrink`. The environment variable CPMRUN names the built program."""
 
 import unittest
 
@@ -139,8 +139,9 @@ class Shrink(CommandCase):
 
     def test_faults_of_what_fails(self) -> None:
         words = self.typed(b"a)")
-        self.faulty("there is no stop cause Foo", *words, "--cause", "Foo")
-        self.faulty("there is no stop cause Halt 1", *words, "--cause", "Halt 1")
+        causes = "WarmBoot, Halt, Limit, Undefined [XX], SystemArea [XXXX], NoDollar, ConsoleExhausted, Unsupported [N] and BadDrive [N]"
+        for cause in "Warm", "Halt 1":
+            self.faulty(f"there is no stop cause {cause}; the causes are {causes}", *words, "--cause", cause)
         self.faulty("--test needs {} in place of the file with the input", *words, "--test", "true")
         self.faulty("--test: No closing quotation", *words, "--test", "'true {}")
         self.faulty("none: No such file or directory", *words, "--test", "none {}")

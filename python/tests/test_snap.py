@@ -1,4 +1,4 @@
-"""Tests of `cpmtools snap`. The environment variable CPMRUN names the built program."""
+"""Tests of `vembrusk snap`. The environment variable CPMRUN names the built program."""
 
 from command_case import EXAMPLES, CommandCase
 
@@ -83,5 +83,13 @@ class Snap(CommandCase):
     def test_faults(self) -> None:
         self.faulty("--accept needs --kept", GREETING, "--edits", self.edits, "--accept")
         self.faulty("--force needs --accept", GREETING, "--edits", self.edits, "--kept", "kept", "--force")
-        self.faulty("the runner ended with status 2: cpmrun: line 1 is malformed", GREETING, "--edits", self.put("bad", b"stop\n"))
-        self.faulty("the runner ended with status 2: cpmrun: line 2 is malformed", GREETING, "--edits", self.put("bad", b"run\nrun\r\n"))
+        for name, data, number, line in ("bad", b"stop\n", 1, "'stop'"), ("d/bad", b"run\nrun\r\n", 2, r"'run\r'"), \
+                ("bad", b"run\n\n", 2, "''"), ("bad", b"x" * 101, 1, f"'{'x' * 100}..., 101 bytes'"):
+            path = self.put(name, data)
+            self.faulty(f"{path}:{number}: no edit line: {line}", GREETING, "--edits", path)
+        path = self.put("bad", b"run\n\xe9\n")
+        self.faulty(f"{path}:2: the line 'é' has a character that is not ASCII", GREETING, "--edits", path)
+        path = self.put("bad", b"limit 5\ninsert 0 " + b"00" * 32_769)
+        length = "would have 65,547 bytes; a line can have 65,536, with 32,758 bytes of data"
+        self.faulty(f"{path}:2: the line `insert 0 {'0' * 21}...` {length}", GREETING, "--edits", path)
+        self.faulty("the runner ended with status 1: cpmrun: cannot read none.com", "none.com", "--edits", self.put("run", b"run\n"))

@@ -1,4 +1,4 @@
-"""Tests of `cpmtools label`, and of the symbol files and listings that the tools read. pasmo and z80asm make some, if they are there."""
+"""Tests of `vembrusk label`, and of the symbol files and listings that the tools read. pasmo and z80asm make some, if they are there."""
 
 import shutil
 import subprocess
@@ -102,7 +102,8 @@ class SymbolsTest(CommandCase):
                  "0108 c3 11 01\t\t        jp done", "010b 00 01\t\tcount:  db 0,1", '010d .. 0d ..\t\tmsg:    db "Hi",13,"$"',
                  "0111 c9\t\tdone:   ret"]
         debug = ["0100:\t\tlabel start", "0100:0E09\tLD C, 09", "0102:110D01\tLD DE, 010D", "0105:CD0500\tCALL 0005", "0108:C31101\tJP 0111",
-                 "010B:\t\tlabel count", "010B:0001\tDEFB of 2 bytes", "010D:48690D24\tDEFB of 4 bytes", "0111:C9\t\tRET"]
+                 "010B:\t\tlabel count", "010B:0001\tDEFB of 2 bytes", "010D:48690D24\tDEFB of 4 bytes", "0111:C9\t\tRET",
+                 "0112:01020304\tDEFB of 9 bytes", "0116:05060708", "011A:09", "011B:00000000\tDEFS of 6 bytes with value 00", "011F:0000"]
         code = [(0x100, b"\x0e\x09"), (0x102, b"\x11\x0d\x01"), (0x105, b"\xcd\x05\x00"), (0x108, b"\xc3\x11\x01"), (0x111, b"\xc9")]
         for name, text in ("asm", PRN), ("m80", M80), ("z80asm", "\n".join(lines)), ("pasmo", "\n".join(debug)):
             with self.subTest(name):

@@ -1,4 +1,4 @@
-"""Tests of `cpmtools travel`, `memory.py` and `steps.py`. The environment variables CPMRUN and CPMTRACE name the built programs."""
+"""Tests of `vembrusk travel`, `memory.py` and `steps.py`. The environment variables CPMRUN and CPMTRACE name the built programs."""
 
 import contextlib
 import fcntl
@@ -270,8 +270,11 @@ class Labels(TravelCase):
 
     def labelled(self, commands: str) -> list[str]:
         """Returns what the commands print with labels."""
-        symbols = self.put("writer.sym", b"cell\t\tEQU 00120H\nback\t\tEQU 00105H\ntwo\t\tEQU 00105H\nNext\t\tEQU 00107H\nAbc\t\tEQU 00300H\n")
-        return self.writer(commands, "--symbols", symbols)
+        return self.writer(commands, "--symbols", self.symbols(cell=0x120, back=0x105, two=0x105, Next=0x107))
+
+    def symbols(self, **labels: int) -> Path:
+        """Writes a symbol file with these labels."""
+        return self.put("writer.sym", "".join(f"{name}\t\tEQU {address:05X}H\n" for name, address in labels.items()).encode())
 
     def test_labels_are_shown_and_read(self) -> None:
         lines = [line.replace("cell 0120", "cell cell").replace("0120H", "cell").replace("PC=0107", "PC=Next") for line in WRITER_STEPS]
@@ -282,12 +285,31 @@ class Labels(TravelCase):
         self.assertEqual(self.labelled("to 4; mem cell 1")[1], memory_line(0x120, [0x43]))
 
     def test_mistakes(self) -> None:
-        # digits are an address, also if a label has them
-        self.assertEqual(self.labelled("until none; who-wrote abc+x; until back+2; until Abc+0; until abc; until fde"), [
+        self.assertEqual(self.labelled("until none; who-wrote abc+x; until back+2; until abc; until fde; until 10000; until $12345"), [
             *(f"error: {word} is no address: 1 to 4 hexadecimal digits or a label" for word in ("none", "abc+x")),
-            WRITER_STEPS[4].replace("0107", "Next"), "error: no later step is at 0300",
-            "error: no later step is at 0ABC", "error: no later step is at 0FDE",
+            WRITER_STEPS[4].replace("0107", "Next"), "error: no later step is at 0ABC", "error: no later step is at 0FDE",
+            *(f"error: {word} is no address: 1 to 4 hexadecimal digits or a label" for word in ("10000", "$12345")),
         ])
+
+    def test_a_label_of_hexadecimal_letters(self) -> None:
+        """The word is the label. With a digit 0 or a `$` before it, and if there is no such label, it is a number."""
+        labels = ["--symbols", self.symbols(fcb=0x120, f2=0x107, Bad=0x105)]
+        self.assertEqual(self.writer("until f2; back-until BAD; mem fcb 1; mem f2 1; mem f2+1 1", *labels)[2:],
+                         [memory_line(address, [byte]) for address, byte in ((0x120, 0x41), (0x107, 0x5E), (0x108, 0x0E))])
+        for words, address in (("0fcb", "0FCB", "$fcb", "$0fcb"), 0xFCB), (("0f2", "$f2", "$00F2"), 0xF2), (("0bad", "$BAD"), 0xBAD), \
+                (("face", "0face", "$FACE", "$0face"), 0xFACE):
+            for word in words:
+                self.assertEqual(self.writer(f"mem {word} 1", *labels), [memory_line(address, [0])], word)
+        self.assertEqual(self.writer("mem fcb 1; mem 0fcb 1; mem $fcb 1"), [memory_line(0xFCB, [0])] * 3)
+
+    def test_symbols_of_another_program(self) -> None:
+        program = self.put("writer.com", WRITER_CODE)
+        for labels, refers in ({"a": 0x120, "b": 0x121, "c": 0x105}, None), ({"a": 0x100, "bdos": 5}, None), ({"a": 0x10D}, "0 of its 1 label"), \
+                ({"a": 0x120, "b": 0x121, "c": 0x122, "d": 0x123}, "1 of its 4 labels"), ({"a": 0x105, "b": 0x105, "c": 0x107}, "0 of its 2 labels"):
+            symbols = self.symbols(**labels)
+            warning = "" if refers is None else f"warning: {symbols} may be of another program: {program} refers to {refers}\n"
+            status, _, errors = self.outcome(program, "--symbols", symbols)
+            self.assertEqual((status, errors), (0, warning), labels)
 
 
 class Writes(TravelCase):
@@ -340,7 +362,7 @@ class Terminal(CommandCase):
     def converse(self, *turns: tuple[bytes, bytes]) -> tuple[int, bytes]:
         """Types the first of each pair after the second is shown, and returns the status and all that is shown."""
         terminal, end = pty.openpty()
-        words = [sys.executable, "-B", TOP / "cpmtools", "travel", self.put("long.com", LONG_CODE), "--limit", "100000000"]
+        words = [sys.executable, "-B", TOP / "vembrusk", "travel", self.put("long.com", LONG_CODE), "--limit", "100000000"]
         env = {**os.environ, "TERM": "dumb"}
         with subprocess.Popen(words, stdin=end, stdout=end, stderr=end, start_new_session=True, env=env,
                               preexec_fn=lambda: fcntl.ioctl(0, termios.TIOCSCTTY, 0)) as process:

@@ -1,4 +1,4 @@
-"""Clients of the programs `cpmrun`, `cpmdeps` and `cpmtrace`, which run programs of CP/M 2.2, and the tools of the command `cpmtools`.
+"""Clients of the programs `cpmrun`, `cpmdeps` and `cpmtrace`, which run programs of CP/M 2.2, and the tools of the command `vembrusk`.
 
 `Session` sends edit lines to a running cpmrun, `read_listing` returns what a run asked for, and `Tracer` the steps of a run.
 """

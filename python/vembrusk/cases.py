@@ -25,8 +25,17 @@ REGISTERS = {"A": 0, "F": 2, "B": 0, "C": 0, "D": 0, "E": 0, "H": 0, "L": 0}
 SHOWN = bytes(byte for byte in range(0x20, 0x7F) if byte != 0x5C)
 """The bytes that are themselves in a line of text."""
 
+COMMANDS = {form.split()[0]: form for form in (
+    "run", "insert AT BYTES", "replace AT BYTES", "remove AT COUNT", "poke ADDR BYTES", "file NAME BYTES", "gone NAME", "limit N", "drop N")}
+"""The form of each command, by its word."""
+
+WORDS = {"AT": "[0-9]{1,10}", "COUNT": "[0-9]{1,10}", "N": "[0-9]{1,10}", "ADDR": "[0-9A-Fa-f]{4}", "NAME": r"\S+", "BYTES": ".+"}
+"""What can be in the place of each word of a form."""
+
 WITH_BYTES = ("insert", "replace", "poke", "file")
 """The edit lines that end with bytes."""
+
+TITLE = 'a case begins with "== TITLE"'
 
 
 class CaseError(ValueError):
@@ -57,13 +66,20 @@ def parse_bytes(text: str) -> bytes:
     while at < len(text):
         token = TOKEN.match(text, at)
         if not token:
-            raise CaseError(f"no bytes: {text[at:]}")
+            raise CaseError(wrong_bytes(text[at:].strip()))
         word, count, nothing = token.groups()
         if not nothing:
             part = word[1:-1].encode("latin-1") if word[0] == '"' else parse_bytes(word[1:-1]) if word[0] == "(" else bytes.fromhex(word)
             parts.append(part * int(count or 1))
         at = token.end()
     return b"".join(parts)
+
+
+def wrong_bytes(text: str) -> str:
+    """Returns what is wrong with a text that is no bytes, and what to write."""
+    if re.fullmatch("(?:[0-9A-Fa-f]{2})+", text) is not None:
+        return f"write pairs of capital hexadecimal digits: {bytes.fromhex(text).hex(' ').upper()}"
+    return f"no bytes: {text}" if '"' in text else f'put a text in double quotes: "{text}"'
 
 
 def spell(data: bytes) -> str:
@@ -299,6 +315,16 @@ class Case:
             yield from host_files(folder)
 
 
+def check_command(command: str) -> None:
+    """Raises CaseError for a line that is no command."""
+    form = COMMANDS.get(command.partition(" ")[0])
+    if form is None:
+        raise CaseError(f"no command: {command}")
+    word, *places = form.split()
+    if re.fullmatch(" ".join([word, *(WORDS[place] for place in places)]), command) is None:
+        raise CaseError(f'the command is "{form}": {command}')
+
+
 def line_of(command: str) -> str:
     """Returns the edit line of a command."""
     words = command.split(" ", 2)
@@ -316,6 +342,8 @@ def sections_of(path: Path) -> list[list[Line]]:
     for number, line in enumerate(read_text(path).split("\n"), 1):
         if line.startswith("== "):
             sections.append([])
+        elif line.startswith("=="):
+            raise CaseError(f"{path}:{number}: {TITLE}: {line.rstrip()}")
         if line.strip() and not line.startswith("#"):
             sections[-1].append(Line(line.rstrip(), number))
     return sections
@@ -330,7 +358,7 @@ def programs_in(lines: Iterable[str]) -> dict[str, list[str]]:
             name = line.split()[1]
             programs[name] = []
         elif name is None:
-            raise CaseError(f"{number_of(line)}: no program is before this line: {line}")
+            raise CaseError(f"{number_of(line)}: {TITLE}: {line}")
         else:
             programs[name].append(line)
     return programs
@@ -416,7 +444,7 @@ class Reader:
             try:
                 if line.startswith("> "):
                     case.commands.append(Command(Line(line[2:], line.number), []))
-                    line_of(line[2:])
+                    self.check_command(line[2:])
                 elif case.commands:
                     case.commands[-1].wanted.append(line)
                 elif line.startswith("|"):
@@ -431,6 +459,11 @@ class Reader:
         if case.is_empty:
             raise CaseError(f"{path}:{case.number}: the case has no command")
         return case
+
+    def check_command(self, command: str) -> None:
+        """Raises CaseError for a line that is no command."""
+        check_command(command)
+        line_of(command)
 
     @staticmethod
     def assembled(path: Path, number: int, program: list[str]) -> bytes:

@@ -15,7 +15,7 @@ from pathlib import Path
 from xml.etree import ElementTree
 
 from .accepting import accept
-from .cases import Case, CaseError, Reader
+from .cases import TITLE, Case, CaseError, Reader
 from .files import write_whole
 from .player import Difference, play_case
 from .session import PathName
@@ -58,7 +58,7 @@ def read_cases(paths: Iterable[str]) -> list[Case]:
     """Returns the cases of files and folders. Raises ValueError if there is none."""
     cases = [case for path in case_files(paths) for case in Reader().read(path)]
     if not cases:
-        raise ValueError("there is no case in these files")
+        raise ValueError(f"there is no case in these files; {TITLE}")
     return cases
 
 

@@ -1,4 +1,4 @@
-"""The command `cpmtools` with its subcommands."""
+"""The command `vembrusk` with its subcommands."""
 
 from __future__ import annotations
 
@@ -25,13 +25,20 @@ SUBCOMMANDS = {
     "label": "writes the labels of a source into a trace",
 }
 
+PROGRAM_OPTIONS = {
+    "cpmrun": "--edits --out --out-b --out-c --out-d --deps --target --trace --partial --dry-run --explain".split(),
+    "cpmdeps": "--by-step --make".split(),
+    "cpmtrace": "--steps --from --to --at --writes --reads --file --last".split(),
+}
+"""The options of each program that its subcommands do not pass on."""
+
 EPILOG = """Each subcommand has --help. Exit status: 0 if all is as wanted, 1 if something differs, fails or was not found, 2 after an error,
 which is one line on standard error."""
 
 
 def usage() -> str:
     """Returns the help of the whole command."""
-    lines = ["Usage: cpmtools SUBCOMMAND [WORDS]", "", "Tools for programs of CP/M 2.2 and their sessions.", "", "Subcommands:"]
+    lines = ["Usage: vembrusk SUBCOMMAND [WORDS]", "", "Tools for programs of CP/M 2.2 and their sessions.", "", "Subcommands:"]
     lines += [f"  {name:9}{meaning}" for name, meaning in SUBCOMMANDS.items()]
     return "\n".join([*lines, "", EPILOG, ""])
 
@@ -68,14 +75,27 @@ def silence_output() -> None:
     os.dup2(os.open(os.devnull, os.O_WRONLY), sys.stdout.fileno())
 
 
+def parser_of(name: str) -> Arguments:
+    """Returns the parser of a subcommand."""
+    module = import_module(f".{name}", __package__)
+    parser = Arguments(prog=f"vembrusk {name}", description=module.__doc__, allow_abbrev=False)
+    module.add_arguments(parser)
+    parser.owners_of = owners_of
+    return parser
+
+
+def owners_of(option: str) -> list[str]:
+    """Returns the subcommands that have an option, or else the programs that have it."""
+    owners = [name for name in SUBCOMMANDS if parser_of(name).has_option(option)]
+    return owners or [name for name, options in PROGRAM_OPTIONS.items() if option in options]
+
+
 def run(name: str, words: Sequence[str]) -> int:
     """Runs a subcommand, and returns its status. If the reader of its output has closed the pipe, as `head` does, it ends quietly."""
-    module = import_module(f".{name}", __package__)
-    parser = Arguments(prog=f"cpmtools {name}", description=module.__doc__, allow_abbrev=False)
-    module.add_arguments(parser)
+    parser = parser_of(name)
     values = parser.read(words)
     try:
-        status = module.run(values)
+        status = import_module(f".{name}", __package__).run(values)
         sys.stdout.flush()
         return status
     except BrokenPipeError:
@@ -99,7 +119,7 @@ def main(words: Sequence[str] | None = None) -> NoReturn:
     if name in ("-h", "--help"):
         print(usage(), end="")
     elif name in ("-V", "--version"):
-        print(f"cpmtools {__version__}")
+        print(f"vembrusk {__version__}")
     else:
-        sys.exit(end("cpmtools", f"there is no subcommand {name}; --help lists them" if name else "a subcommand is missing; --help lists them"))
+        sys.exit(end("vembrusk", f"there is no subcommand {name}; --help lists them" if name else "a subcommand is missing; --help lists them"))
     sys.exit(0)

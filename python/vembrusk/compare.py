@@ -24,7 +24,7 @@ from .listing import FileReads, Listing
 from .memory import loaded_memory
 from .progress import Progress
 from .session import PathName
-from .symbols import Symbols, read_symbols
+from .symbols import Symbols, read_symbols, warn_of_other_program
 from .trace import trace_lines
 from .words import Arguments, SessionWords, UsageError, number, session_of
 
@@ -202,7 +202,7 @@ def heading(count: int, unit: str) -> str:
 
 def second_words(values: argparse.Namespace, text: str) -> SessionWords:
     """Returns the session that has the words of the first, except these."""
-    parser = Arguments(prog="cpmtools compare: --with", allow_abbrev=False)
+    parser = Arguments(prog="vembrusk compare: --with", allow_abbrev=False)
     parser.set_operands("[PROGRAM] [TAIL]", "")
     parser.add_session()
     try:
@@ -234,6 +234,9 @@ def run(values: argparse.Namespace) -> int:
     symbols = read_symbols(values.symbols)
     one = Side(session_of(values), symbols)
     other = Side(second_words(values, values.other), read_symbols(values.with_symbols) if values.with_symbols else symbols)
+    for side, paths in (one, values.symbols), (other, values.with_symbols):
+        if paths:
+            warn_of_other_program(paths, {side.words.program: Path(side.words.program).read_bytes()})
     status = 0
     for line in differences(Comparison(one, other, values.cpmrun, values.cpmtrace, values.context), values.cpmdeps):
         print(line)

@@ -23,7 +23,7 @@ from .player import sessions_of
 from .progress import Progress
 from .session import PathName
 from .source import read_source
-from .symbols import Symbols, read_symbols
+from .symbols import Symbols, read_symbols, warn_of_other_program
 from .words import Arguments, UsageError, check_output, number, session_of
 
 NOT_EXECUTED = "#####"
@@ -145,6 +145,7 @@ def run(values: argparse.Namespace) -> int:
         raise UsageError("--lcov needs --listing")
     symbols = read_symbols(values.symbols)
     programs = read_programs(values)
+    warn_of_other_program(values.symbols, {covered.path: covered.program for covered in programs})
     add_listings(programs, values.listing)
     for covered in programs:
         print(covered.summary())

@@ -19,6 +19,7 @@ from .words import Arguments, UsageError
 RECORD = 128
 CAUSES = re.compile(r"WarmBoot|Halt|Limit|NoDollar|ConsoleExhausted|Undefined( [0-9A-F]{2})?|SystemArea( [0-9A-F]{4})?|"
                     r"(Unsupported|BadDrive)( [0-9]{1,3})?")
+CAUSE_NAMES = "WarmBoot, Halt, Limit, Undefined [XX], SystemArea [XXXX], NoDollar, ConsoleExhausted, Unsupported [N] and BadDrive [N]"
 HIGHEST_STATUS = 125
 """The highest status of a command that has tested its input."""
 
@@ -70,7 +71,7 @@ def expected_paths(words: list[str]) -> list[str]:
 def check_cause(cause: str | None) -> None:
     """Raises UsageError for a cause that no run has."""
     if cause is not None and CAUSES.fullmatch(cause) is None:
-        raise UsageError(f"there is no stop cause {cause}")
+        raise UsageError(f"there is no stop cause {cause}; the causes are {CAUSE_NAMES}")
 
 
 class Test:

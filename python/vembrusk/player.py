@@ -11,14 +11,11 @@ from pathlib import Path
 
 from .cases import CAUSES, Case, CaseError, Command, Outcome, Setup, line_of, number_of, parse_outcome
 from .files import copy_host_files, host_file
-from .session import PathName, Report, parse_report
+from .session import WRONG_LINE, PathName, Report, parse_report
 from .words import SessionWords
 
 RUN = re.compile(rf"(?:({CAUSES})(?: after ([0-9]+) steps)?|same)")
 EDIT = re.compile(r"(ok|refused [0-9])")
-
-MALFORMED = 2
-"""The status of cpmrun after a line that is no edit line."""
 
 Check = Callable[[list[str]], None]
 """Compares the lines of a reply. Raises `Difference`."""
@@ -190,9 +187,10 @@ def answers_of(play: Play, runner: PathName) -> list[list[str]]:
     replies = replies_in(done.stdout.decode("latin-1"))
     if done.returncode != 0:
         message = " ".join(done.stderr.decode("utf-8", "replace").split())
-        wrong = play.case.commands[len(replies):][:1] if done.returncode == MALFORMED else []
-        number = number_of(wrong[0].line) if wrong else play.case.number
-        raise CaseError(f"{play.case.path}:{number}: {message}")
+        if done.returncode == WRONG_LINE and len(replies) < len(play.case.commands):
+            line = play.case.commands[len(replies)].line
+            raise play.wrong(line, re.sub(r"\bline \d+ is", "this line is", message))
+        raise CaseError(f"{play.case.path}:{play.case.number}: {message}")
     return replies
 
 

@@ -32,6 +32,9 @@ LONGEST_LINE = 65_536
 LONGEST_DATA = (LONGEST_LINE - len("replace 0123456789 ")) // 2
 """The most bytes of data that every edit line can hold, at two digits a byte."""
 
+WRONG_LINE = 2
+"""The status of a runner that ends because an edit line is malformed or too long."""
+
 GRACE_SECONDS = 10.0
 """The seconds that a closed runner may take before it is killed."""
 
@@ -94,7 +97,8 @@ class Cause:
     name: str
     """One of `WarmBoot`, `Halt`, `Limit`, `Undefined`, `SystemArea`, `NoDollar`, `ConsoleExhausted`, `Unsupported`, `BadDrive`."""
     number: int | None = None
-    """The opcode of `Undefined`, the address of `SystemArea`, the call of `Unsupported`, the drive of `BadDrive`."""
+    """The opcode of `Undefined`, the address of `SystemArea`, the call of `Unsupported`, the drive of `BadDrive`: call 14 counts drives from 0, a
+    file control block from 1."""
 
     def __str__(self) -> str:
         if self.number is None:
@@ -277,7 +281,9 @@ class Session:
 
     def _answer(self, line: str) -> list[str]:
         """Sends a line and reads its whole reply. If an exception cuts that off, the session is over."""
-        sent = line.encode("ascii")
+        if not line.isascii():
+            raise ValueError(f"the line {line!r} has a character that is not ASCII")
+        sent = line.encode()
         if len(sent) > LONGEST_LINE:
             raise ValueError(f"the line `{line[:30]}...` would have {len(sent):,} bytes; a line can have {LONGEST_LINE:,}, "
                              f"with {LONGEST_DATA:,} bytes of data")

@@ -15,7 +15,7 @@ from collections.abc import Iterator
 from pathlib import Path
 
 from .files import write_whole
-from .session import PathName, Refused, Registers, Report, Session
+from .session import WRONG_LINE, PathName, ProgramEnded, Refused, Registers, Report, Session
 from .words import Arguments, UsageError, check_output, session_of
 
 LONGEST_SHOWN = 100
@@ -69,15 +69,26 @@ def report_lines(report: Report) -> Iterator[str]:
             yield from file_lines(data)
 
 
-def shown(session: Session, edits: list[str]) -> Iterator[str]:
-    """Yields each edit line and its reply."""
-    for line in edits:
-        yield f"> {line}" if len(line) <= LONGEST_SHOWN else f"> {line[:LONGEST_SHOWN]}..., {len(line)} bytes"
+def shown(session: Session, edits: list[str], path: str) -> Iterator[str]:
+    """Yields each edit line of a file and its reply. Raises ValueError with the path and the number of a wrong line."""
+    for number, line in enumerate(edits, 1):
+        yield f"> {short(line)}"
         try:
             report = session.send(line)
             yield from ["ok"] if report is None else report_lines(report)
         except Refused as refusal:
             yield str(refusal)
+        except ProgramEnded as ended:
+            if ended.status != WRONG_LINE:
+                raise
+            raise ValueError(f"{path}:{number}: no edit line: {short(line)!r}") from None
+        except ValueError as fault:
+            raise ValueError(f"{path}:{number}: {fault}") from None
+
+
+def short(line: str) -> str:
+    """Returns an edit line, or the beginning of a long one and its length."""
+    return line if len(line) <= LONGEST_SHOWN else f"{line[:LONGEST_SHOWN]}..., {len(line)} bytes"
 
 
 def add_arguments(parser: Arguments) -> None:
@@ -113,7 +124,7 @@ def run(values: argparse.Namespace) -> int:
     text = Path(values.edits).read_bytes().decode("latin-1")
     edits = text.removesuffix("\n").split("\n") if text else []
     with words.start(values.cpmrun) as session:
-        new = [f"{line}\n" for line in shown(session, edits)]
+        new = [f"{line}\n" for line in shown(session, edits, values.edits)]
     if values.kept is None:
         sys.stdout.writelines(new)
         return 0

@@ -51,8 +51,8 @@ class SourceLine:
 
     @property
     def is_code(self) -> bool:
-        """Whether it has an instruction."""
-        return bool(self.code) and operation_of(self.source) not in DATA
+        """Whether it has an instruction. A line that has bytes alone continues the data of the line before it."""
+        return bool(self.code) and bool(self.source) and operation_of(self.source) not in DATA
 
 
 @dataclass(frozen=True)

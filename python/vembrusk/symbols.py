@@ -7,7 +7,8 @@ that has no label, or several, stays a number.
 from __future__ import annotations
 
 import re
-from collections.abc import Iterable, Iterator
+import sys
+from collections.abc import Iterable, Iterator, Mapping
 from dataclasses import dataclass, field
 from pathlib import Path
 
@@ -18,6 +19,9 @@ FIRST_ADDRESS = 0x100
 
 FARTHEST = 255
 """The most bytes after a label that are named by it."""
+
+REFERRED_PART = 3
+"""A program refers to at least one of this many of its labels."""
 
 _PASMO = re.compile(r"(\S+)\s+EQU 0?([0-9A-F]{4,5})H")
 _Z80ASM = re.compile(r"(\S+):\s+equ \$([0-9a-f]{1,4})")
@@ -135,6 +139,20 @@ def labels_of(path: Path) -> Iterator[tuple[str, int]]:
         yield from _m80_labels(lines[lines.index("Symbols:") + 1:])
     else:
         yield from read_source(path).labels()
+
+
+def warn_of_other_program(paths: Iterable[str], programs: Mapping[str, bytes]) -> None:
+    """Prints a line on standard error for each file of labels that fits none of these programs: each refers to few of its labels.
+
+    A program that refers to a label has its address as a word, in an instruction or a table. The label at 0100 fits any program.
+    """
+    for path in paths:
+        labels = {address & 0xFFFF for _, address in labels_of(Path(path)) if address & 0xFFFF > FIRST_ADDRESS}
+        counts = {name: sum(address.to_bytes(2, "little") in program for address in labels) for name, program in programs.items()}
+        best = max(counts, key=lambda name: counts[name])
+        if counts[best] * REFERRED_PART < len(labels):
+            some = f"{counts[best]} of its {len(labels)} label{'s' * (len(labels) != 1)}"
+            print(f"warning: {path} may be of another program: {best} refers to {some}", file=sys.stderr)
 
 
 def _m80_labels(lines: list[str]) -> Iterator[tuple[str, int]]:

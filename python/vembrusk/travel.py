@@ -1,7 +1,8 @@
 """Goes through the run of a session step by step, forward and back.
 
 Commands come from the terminal or from a pipe; `help` lists them. Steps are counted from 0: after N steps, step N is the next one, which is
-shown. An address is hexadecimal, or a label of --symbols. A mistake in a command changes nothing.
+shown. An address is a label of --symbols, or hexadecimal: if there is a label fcb, the number is 0FCB or $fcb. A mistake in a command changes
+nothing.
 """
 
 from __future__ import annotations
@@ -16,7 +17,7 @@ from pathlib import Path
 from .memory import LAST_ADDRESS, Memory, loaded_memory
 from .run import Run
 from .snap import escaped, registers_line
-from .symbols import Symbols, read_symbols
+from .symbols import Symbols, read_symbols, warn_of_other_program
 from .trace import Step
 from .words import Arguments, SessionWords, session_of
 
@@ -25,6 +26,9 @@ LISTED = 5
 
 SHOWN = 16
 """The cells that `mem` shows by default, and in each row."""
+
+DIGITS = re.compile(r"\$?([0-9A-Fa-f]{1,4}|0[0-9A-Fa-f]{4})")
+"""A hexadecimal number. With a `$` or a `0` before it, it is no label."""
 
 UNKNOWN = "??"
 """What `mem` shows for a byte that is not known."""
@@ -101,7 +105,7 @@ class Travel(cmd.Cmd):
         self._go(number)
 
     def do_until(self, rest: str) -> None:
-        """until ADDR: goes forward to the next step at this address; FE06 is any system call."""
+        """until ADDR: goes forward to the next step at this address, a label or hexadecimal digits; FE06 is any system call."""
         address = self._address(_one(rest, "an address"))
         self._go_to_step(self._run.next_at(address, self.here), f"no later step is at {address:04X}")
 
@@ -182,16 +186,17 @@ class Travel(cmd.Cmd):
         self.stdout.flush()
 
     def _address(self, word: str) -> int:
-        """Returns the address of hexadecimal digits, or else of a label."""
-        if re.fullmatch("[0-9A-Fa-f]{1,4}", word) is not None:
-            return int(word, 16)
+        """Returns the address of a label, or else of hexadecimal digits."""
         try:
             address = self._symbols.address(word)
         except ValueError as fault:
             raise Mistake(str(fault)) from None
-        if address is None:
+        if address is not None:
+            return address
+        number = DIGITS.fullmatch(word)
+        if number is None:
             raise Mistake(f"{word} is no address: 1 to 4 hexadecimal digits{' or a label' if self._symbols.addresses else ''}")
-        return address
+        return int(number[1], 16)
 
     def _stop(self) -> str:
         return f"stop {self._run.cause} after {self._run.steps} steps"
@@ -273,6 +278,8 @@ def run(values: argparse.Namespace) -> int:
     symbols = read_symbols(values.symbols)
     sys.stdin.reconfigure(errors="backslashreplace")  # type: ignore[union-attr]
     with closing(Run(words, values.cpmrun, values.cpmtrace)) as whole:
-        loaded = loaded_memory(Path(words.program).read_bytes(), words.tail or "")
+        program = Path(words.program).read_bytes()
+        warn_of_other_program(values.symbols, {words.program: program})
+        loaded = loaded_memory(program, words.tail or "")
         Travel(whole, Memory(whole, loaded, words.host_data, has_plain_script(words)), symbols).loop()
     return 0

@@ -124,6 +124,8 @@ class Arguments(argparse.ArgumentParser):
     """Reads options and operands in any order, and prints a usage error in one line. All words after `--` are operands."""
 
     operands: str = ""
+    owners_of: Callable[[str], list[str]] | None = None
+    """Returns the commands that have an option, for the message about one that this command has not."""
 
     def set_operands(self, operands: str, meaning: str) -> None:
         """Sets the names of the operands, as `PROGRAM [TAIL]` or `FILE..`, and what they are."""
@@ -137,12 +139,24 @@ class Arguments(argparse.ArgumentParser):
         if "--" in before:
             at = before.index("--")
             before, after = before[:at], before[at + 1:]
-        values = self.parse_intermixed_args(before)
+        values, unknown = self.parse_known_intermixed_args(before)
+        if unknown:
+            self.error(self._about_unknown(unknown))
         if self.operands:
             self._set_operands(values, [*values.operands, *after])
         elif after:
             self.error(f"unrecognized arguments: {' '.join(after)}")
         return values
+
+    def has_option(self, option: str) -> bool:
+        """Returns whether this is one of the options."""
+        return option in self._option_string_actions
+
+    def _about_unknown(self, words: list[str]) -> str:
+        """Returns the message about words that are no arguments, of which the first may be an option of other commands."""
+        option = words[0].partition("=")[0]
+        owners = [] if self.owners_of is None else self.owners_of(option)
+        return f"{option} is an option of {listed(owners)}" if owners else f"unrecognized arguments: {' '.join(words)}"
 
     def _set_operands(self, values: argparse.Namespace, given: list[str]) -> None:
         """Sets the attribute of each operand."""
@@ -190,6 +204,11 @@ class Arguments(argparse.ArgumentParser):
     def error(self, message: str) -> NoReturn:
         """Prints a usage error in one line, and ends with status 2."""
         self.exit(2, f"{self.prog}: {' '.join(message.split())}\n")
+
+
+def listed(names: list[str]) -> str:
+    """Returns names as a sentence has them, such as `snap, check and shrink`."""
+    return " and ".join(filter(None, [", ".join(names[:-1]), names[-1]]))
 
 
 def default_program(name: str) -> str:

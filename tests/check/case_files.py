@@ -7,7 +7,7 @@ from functools import cache
 from pathlib import Path
 
 from helpers import TOP
-from vembrusk.cases import CAUSES, Case, Line, Reader, Setup, digits, programs_in, sections_of
+from vembrusk.cases import CAUSES, Case, Line, Reader, Setup, digits, line_of, programs_in, sections_of
 
 FOLDER = TOP / 'tests/cases'
 KEPT = r'(?:, kept ([0-9 ]+|none))?'
@@ -54,6 +54,10 @@ class CallCase(Case):
 
 class CallReader(Reader):
     """Reads cases with programs of calls."""
+
+    def check_command(self, command: str) -> None:
+        """Takes all commands: some are only of these cases, and some are wrong on purpose."""
+        line_of(command)
 
     def part(self, case: Case, line: Line, programs: Mapping[str, list[str]], program: list[str]) -> None:
         """Reads a line about the session of a case."""

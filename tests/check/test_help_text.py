@@ -42,7 +42,7 @@ class HelpTextTest(ProgramTest):
     def test_make_pages_changes_nothing_and_writes_what_is_lost(self) -> None:
         for folder in 'docs', 'scripts', 'python':
             shutil.copytree(TOP / folder, self.work / folder)
-        for name in 'docs/cpmrun.1', 'docs/cpmdeps.1', 'docs/cpmtrace.1', 'docs/cpmtools.1', 'scripts/completion':
+        for name in 'docs/cpmrun.1', 'docs/cpmdeps.1', 'docs/cpmtrace.1', 'docs/vembrusk.1', 'scripts/completion':
             text = (TOP / name).read_text()
             with_losses = re.sub(r'The same for drive|[\d.]+(?=" "Vembrusk")| --limit=N', '', text)
             self.assertNotEqual(with_losses, text)

@@ -47,7 +47,7 @@ class Install(unittest.TestCase):
             self.assertEqual(run(prefix / 'bin' / name, '--version').stdout, f'{name} 1.0.0\n')
         self.assertEqual(links_below(prefix), LINKS)
         for page in doc.rglob('*.md'):
-            self.assertNotRegex(page.read_text(), r'\./cpm(run|deps|trace|tools)|tests/programs', page)
+            self.assertNotRegex(page.read_text(), r'\./(cpmrun|cpmdeps|cpmtrace|vembrusk)\b|tests/programs', page)
         env = {**os.environ, 'PATH': f'{prefix}/bin:{os.environ["PATH"]}'}
         found = []
         for page in 'WALKS.md', 'MANUAL.md', 'TOOLS.md', 'examples/README.md':
@@ -63,7 +63,7 @@ class Install(unittest.TestCase):
         examples = run('make', '-s', '-C', doc / 'examples', f'BUILT={self.work}/built', 'test-hi', env=env)
         self.assertIn('hi: as expected', examples.stdout)
         (self.work / 'typed').write_bytes(b'((a)(b(c))) and more\r')
-        tools, nest = prefix / 'bin/cpmtools', doc / 'examples/tools/nest.com'
+        tools, nest = prefix / 'bin/vembrusk', doc / 'examples/tools/nest.com'
         shrunk = run(tools, 'shrink', nest, '--console', 'typed', '--cause', 'Halt', '-o', 'least', cwd=self.work, env=env)
         self.assertIn('3 of 21 bytes left', shrunk.stdout)
         explored = run('bash', '-o', 'pipefail', '-c', '"$0" explore "$1" --tries 3000 2>&1 > >(head -n 1 > /dev/null)', tools, nest, env=env)

@@ -15,7 +15,7 @@ PRINTED = {
 """What each prints of hi.com on standard output and standard error."""
 
 OTHERS = ['mycpm', 'cpmdeps-1.0', 'cpmtrace2', 'xcpmdeps', 'my-cpmtrace', 'cpmdeps.exe', 'Cpmdeps', 'CPMTRACE', 'cpmdep', 'cpmtrac', 'cpm',
-          'cpmtools', 'cpmdeps cpmtrace', ' cpmdeps', 'é']
+          'vembrusk', 'cpmdeps cpmtrace', ' cpmdeps', 'é']
 """Names that are no name of a program."""
 
 

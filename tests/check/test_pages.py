@@ -3,8 +3,9 @@
 A block of commands is fenced by ```sh, and bash runs it at the top of the copy. The next block, if it is fenced by ```text, is what the
 commands print on standard output and standard error, without carriage returns; if there is none, they may print anything. Every block must
 end with status 0. The blocks of a page run one after another in a copy of their own, and those of the manual also after those of the README,
-as a reader types them. Blocks that are fenced by ```sh parallel are run by
-test_many.py."""
+as a reader types them. A block that is fenced by ```sh needs COMMAND is skipped if this command is not installed. Blocks that are fenced by
+```sh parallel are run by test_many.py."""
+import os
 import re
 import shutil
 import subprocess
@@ -15,13 +16,17 @@ from helpers import DEPENDENCIES_PROGRAM, PROGRAM, TOP, TRACE_PROGRAM, ProgramTe
 LENGTHS = {'README.md': 150, 'docs/PROVED.md': 300}
 """The most lines of the pages that are read first."""
 
-PARTS = ['cpmrun', 'cpmdeps', 'cpmtrace', 'cpmtools', 'crates.txt', 'scripts', 'examples', 'python', 'tests', 'docs']
+TIDY = {'docs/WALKS.md', 'docs/MANUAL.md', 'docs/TOOLS.md', 'python/README.md'}
+"""The pages whose blocks remove the files that they make."""
+
+PARTS = ['cpmrun', 'cpmdeps', 'cpmtrace', 'vembrusk', 'crates.txt', 'scripts', 'examples', 'python', 'tests', 'docs']
 """What the commands may name, beside the built programs."""
 
 
 def blocks_of(page: str, fence: str = 'sh') -> list[re.Match[str]]:
-    """Returns the blocks of commands of a page, each with `commands` and `text`."""
-    return list(re.finditer(rf'^```{fence}\n(?P<commands>.*?)^```\n(?:\n?```text\n(?P<text>.*?)^```$)?', page, re.MULTILINE | re.DOTALL))
+    """Returns the blocks of commands of a page, each with `commands`, `text`, and the command that it `needs` or None."""
+    fenced = rf'^```{fence}(?: needs (?P<needs>\S+))?\n(?P<commands>.*?)^```\n'
+    return list(re.finditer(rf'{fenced}(?:\n?```text\n(?P<text>.*?)^```$)?', page, re.MULTILINE | re.DOTALL))
 
 
 def copy_tree(copy: Path) -> None:
@@ -38,9 +43,12 @@ def copy_tree(copy: Path) -> None:
 
 
 def wrong_blocks(page: Path, copy: Path, env: dict[str, str] | None = None, fence: str = 'sh') -> list[str]:
-    """Returns the blocks of a page that fail or print something else, with what they print."""
+    """Returns the blocks of a page that fail or print something else, with what they print. Skips those that need a command that is not there."""
     found = []
+    path = (env or os.environ)['PATH']
     for block in blocks_of(page.read_text(), fence):
+        if block['needs'] is not None and shutil.which(block['needs'], path=path) is None:
+            continue
         run = subprocess.run(['bash', '-c', block['commands']], cwd=copy, env=env, stdin=subprocess.DEVNULL, stdout=subprocess.PIPE,
                              stderr=subprocess.STDOUT)
         printed = run.stdout.decode(errors='replace').replace('\r', '')
@@ -54,14 +62,23 @@ class PagesTest(ProgramTest):
     def expect_page(self, *names: str) -> None:
         """Expects of each block of a page, or of several in one folder, what the page says."""
         copy_tree(self.work)
+        before = os.listdir(self.work)
         for name in names:
             self.assertTrue(blocks_of((TOP / name).read_text()))
             if found := wrong_blocks(TOP / name, self.work):
                 self.fail('\n'.join(['', *found]))
+        if set(names) <= TIDY:
+            self.expect_names(self.work, *before)
 
     def test_the_pages_that_are_read_first_are_short(self) -> None:
         for name, most in LENGTHS.items():
             self.assertLessEqual(len((TOP / name).read_text().splitlines()), most, name)
+
+    def test_a_block_is_skipped_only_if_the_command_that_it_needs_is_not_there(self) -> None:
+        fences = 'sh', 'sh needs bash', 'sh needs none-such', 'sh parallel'
+        blocks = [f'```{fence}\necho {number}\n```\n```text\nx\n```\n' for number, fence in enumerate(fences)]
+        found = wrong_blocks(self.put('page.md', '\n'.join(blocks)), self.work)
+        self.assertEqual([each.split('\n')[1] for each in found], ['echo 0', 'echo 1'])
 
     def test_commands_of_the_readme(self) -> None:
         self.expect_page('README.md')
