@@ -188,9 +188,11 @@ class ClashTest(ReportTest):
     def test_a_report_is_no_file_that_the_run_changes(self) -> None:
         out = self.work / 'out'
         out.mkdir()
-        for path, words in (self.disk / 'new', self.run_words), (out / 'NEW', [self.program, '--out', out]), ('out/../out/NEW', [self.program, '--out', out]):
+        for path, words in (out / 'NEW', [self.program, '--out', out]), ('out/../out/NEW', [self.program, '--out', out]):
             self.expect_bad_file('deps', path, 'the run changes this file', *words)
             self.expect_bad_file('trace', path, MAY_CHANGE, *words)
+        self.expect_bad_file('deps', self.disk / 'new', 'it would be a file of a disk', *self.run_words)
+        self.expect_bad_file('trace', self.disk / 'new', MAY_CHANGE, *self.run_words)
         self.expect_kept()
 
     def test_a_trace_has_no_name_of_a_file_in_a_folder_that_the_run_writes(self) -> None:
