@@ -57,6 +57,14 @@ class DryRunTest(ProgramTest):
             self.expect_of(0, WARM_BOOT, *words, '--dry-run', out='Hi')
         self.expect_of(0, WARM_BOOT, self.program_of('22 NEW'), '--files', 'd', '--dry-run')
 
+    def test_lines_that_cannot_be_written_change_nothing(self) -> None:
+        self.put('d/b', 'one')
+        program = self.program_of('21 B', '22 NEW')
+        before = self.all_files()
+        with open('/dev/full', 'w') as full:
+            done = self.run_command(PROGRAM, program, '--disk', self.work / 'd', '--dry-run', stderr=full)
+        self.assertEqual((done.returncode, done.stdout, self.all_files()), (0, b'', before))
+
     def test_no_report_is_written(self) -> None:
         self.put('trace', 'old')
         words = [self.program_of('22 NEW'), '--disk', 'd', '--deps', 'rule', '--trace', 'trace', '--dry-run']

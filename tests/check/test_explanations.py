@@ -52,6 +52,12 @@ class ExplanationTest(ProgramTest):
             line = f'call 1 from {at}: the program waits for a key, and the console input has no more; give it by --typed or --console{kept}\n'
             self.expect(7, '', f'stop ConsoleExhausted\n{lines}{line}', self.program_of([code]), '--disk', self.work / 'd', '--explain')
 
+    def test_an_explanation_that_cannot_be_written_changes_no_status(self) -> None:
+        for words in [], ['--explain']:
+            with open('/dev/full', 'w') as full:
+                done = self.run_command(PROGRAM, self.program_of(['NOP; HLT']), *words, stderr=full)
+            self.assertEqual((done.returncode, done.stdout), (4, b''))
+
     def test_an_error_and_edit_lines_have_none(self) -> None:
         self.expect(1, '', 'cpmrun: cannot read none\n', 'none', '--explain', cwd=self.work)
         edits = self.put('edits', 'run\n')
