@@ -461,7 +461,7 @@ put:    ld      e,a
 
 ; Prints the text at DE.
 print:  ld      c,9             ; call 9 prints up to a '$'
-        jp      bdos            ; the RET of the call is that of this
+        jp      bdos            ; the RET of the BDOS returns from here
 
 ; A group has a name and four lines: its first state, the bits that are
 ; counted, the bits that are changed one at a time, and the CRC of real chips.
